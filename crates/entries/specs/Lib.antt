@@ -1,0 +1,5 @@
+pub mod Entry
+pub mod Lists
+pub mod Place
+pub mod Promises
+pub mod Ranks

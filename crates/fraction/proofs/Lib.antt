@@ -1,0 +1,3 @@
+pub mod Bands
+pub mod Laws
+pub mod Tests

@@ -1,0 +1,4 @@
+pub mod Allowed
+pub mod Band
+pub mod Inv
+pub mod Products
