@@ -1,0 +1,38 @@
+-- `greenwald_khanna::Stream::tell` meets its contract: each return is a case of the definition.
+-- Assumes nothing.
+use mathlib.Core.Path.{_≡_, refl, sym, ap, _∙_}
+use mathlib.Core.Bool.{true, false}
+use native.Mathlib.Omega.{arith}
+use borrow.Author.Needs.{needs}
+use Rattle.entries.specs.Entry.{entryOf, entriesOf}
+use Rattle.greenwald_khanna.specs.Sound.{sound}
+use Rattle.greenwald_khanna.proofs.Exactly.{told-exactly}
+use Rattle.greenwald_khanna.proofs.Returns.{few, many, enough}
+use Rattle.greenwald_khanna.proofs.Stream.tell.Statement.{statement}
+use Rattle.greenwald_khanna.proofs.Stream.tell.Tie as tie
+
+returns : tie.Need-returns
+returns c = let a = c .before .args in sym (told-exactly (a .self) (entriesOf (a .rows .now)) (a .x) .slots .1 (few (a .rows .now) (omega arith)))
+
+returns-2 : tie.Need-returns-2
+returns-2 c = let a = c .before .before .args in sym (told-exactly (a .self) (entriesOf (a .rows .now)) (a .x) .slots .1 (many (a .rows .now) (omega arith) (omega arith)))
+
+is-sound-requires : tie.Need-is-sound-requires
+is-sound-requires c κs = search needs
+
+returns-3 : tie.Need-returns-3
+returns-3 c =
+    let a = c .before .before .before .before .args in
+    let list = entriesOf (a .rows .now) in
+    let t : sound (a .self) list ≡ true = sym (c .before .is-sound .ensures) ∙ c .if3 .taken in
+    sym (told-exactly (a .self) list (a .x) .value .1 (enough (a .rows .now) (omega arith) (omega arith), t))
+
+returns-4 : tie.Need-returns-4
+returns-4 c =
+    let a = c .before .before .before .before .args in
+    let list = entriesOf (a .rows .now) in
+    let t : sound (a .self) list ≡ false = sym (c .before .is-sound .ensures) ∙ c .if3 .left in
+    sym (told-exactly (a .self) list (a .x) .damaged .1 (enough (a .rows .now) (omega arith) (omega arith), t))
+
+pub tell-spec : {M : Type 1} → statement M
+tell-spec = tie.close (tie.spec returns returns-2 is-sound-requires returns-3 returns-4)

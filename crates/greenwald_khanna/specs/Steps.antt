@@ -1,0 +1,28 @@
+-- Where an accepted insert starts, and what each half of it leaves in the lent list.
+-- Assumes nothing: these are definitions.
+use mathlib.Core.Path.{_≡_}
+use Prim.Native.Nat.{ℕ, _<_}
+use mathlib.Core.Bool.{true}
+use mathlib.Core.List.{List}
+use lib.ListN.{length}
+use Rattle.fraction.specs.declared.Fraction.{Fraction}
+use Rattle.entries.specs.declared.Entry.{Entry}
+use Rattle.entries.specs.Entry.{zeroEntry}
+use Rattle.entries.specs.Lists.{layout}
+use Rattle.greenwald_khanna_theory.specs.State.{State}
+use Rattle.greenwald_khanna.specs.declared.Stream.{Stream}
+use Rattle.greenwald_khanna.specs.Answers.{streamOf}
+use Rattle.greenwald_khanna.specs.Limits.{observations, slotsOk}
+use Rattle.greenwald_khanna.specs.Sound.{sound}
+
+-- nothing stands against one observation more
+pub record Accepts (st : Stream) (list : List Entry) : Type 0 where
+  pub slots : slotsOk (length list) ≡ true
+  pub unharmed : sound st list ≡ true
+  pub count : st .n < observations
+  pub room : st .held < length list
+
+-- the stream holds s, and the list its entries, `most` slots having been held at any moment
+pub record Holds (ε : Fraction) (s : State) (most : ℕ) (before : List Entry) (st : Stream) (list : List Entry) : Type 0 where
+  pub stream : st ≡ streamOf ε s
+  pub entries : list ≡ layout zeroEntry (s .entries) most before

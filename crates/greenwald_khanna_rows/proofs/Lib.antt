@@ -1,0 +1,6 @@
+pub mod Cells
+pub mod Gaps
+pub mod Passes
+pub mod Soundness
+pub mod Turns
+pub mod Walks

@@ -1,0 +1,9 @@
+pub mod Answering
+pub mod Bound
+pub mod Counts
+pub mod Crossing
+pub mod Explaining
+pub mod Merging
+pub mod Putting
+pub mod Rules
+pub mod Sweeping
