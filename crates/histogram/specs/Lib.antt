@@ -1,0 +1,10 @@
+pub mod Bounds
+pub mod Bins
+pub mod State
+pub mod Sound
+pub mod Answers
+pub mod Contracts
+pub mod Runs
+pub mod Laws
+pub mod Readings
+pub mod Promises

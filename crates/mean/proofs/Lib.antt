@@ -1,0 +1,3 @@
+mod Examples
+mod Rounded
+mod Steps

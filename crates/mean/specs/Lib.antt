@@ -1,0 +1,4 @@
+pub mod Mean
+pub mod Post
+pub mod Promises
+pub mod Readings
