@@ -1,6 +1,6 @@
 -- A quantile of a sound stream: none with nothing accepted, else a value within the ranks of every list that explains the stream.
 -- Assumes nothing.
-use mathlib.Core.Path.{_≡_, refl, sym, ap, _∙_, subst}
+use mathlib.Core.Path.{_≡_, refl, ap, _∙_, subst}
 use Prim.Native.Nat.{ℕ, _+_, _≤_, _<_}
 use mathlib.Core.Bool.{true}
 use mathlib.Core.Option.{none, some}
@@ -21,7 +21,7 @@ use Rattle.greenwald_khanna_theory.specs.State.{State, answerAt, quantile, rank
 use Rattle.greenwald_khanna_theory.specs.Walk.{lookUp}
 use Rattle.greenwald_khanna_theory.proofs.Explaining.{quantile-answers, each-explained, held-within}
 use Rattle.greenwald_khanna.specs.declared.Stream.{Stream}
-use Rattle.greenwald_khanna.specs.declared.Answer.the-variants.{Value, Refused}
+use Rattle.greenwald_khanna.specs.declared.Answer.the-variants.{Value}
 use Rattle.greenwald_khanna.specs.Answers.{valueOf, quantiled}
 use Rattle.greenwald_khanna.specs.Demand3.{Answered}
 use Rattle.greenwald_khanna.specs.Limits.{slotsOk}

@@ -1,23 +1,20 @@
 -- Demand 3: every call of a run keeps the stream sound and explained by the accepted observations, so every quantile is within the ranks.
 -- Assumes nothing.
 use mathlib.Core.Path.{_≡_, refl, sym, ap, _∙_, subst}
-use Prim.Native.Nat.{ℕ, _≤_}
+use Prim.Native.Nat.{ℕ}
 use mathlib.Core.Bool.{true}
 use mathlib.Core.List.{List, [], _∷_, _++_, append-nil, append-assoc}
 use native.Mathlib.Omega.{arith}
 use lib.ListN.{length}
 use Rattle.entries.specs.declared.Entry.{Entry}
 use Rattle.fraction.specs.declared.Fraction.{Fraction}
-use Rattle.fraction.specs.Allowed.{isPhi}
-use Rattle.fraction.specs.Products.{eOf}
 use Rattle.greenwald_khanna_theory.specs.Explains.{Explains}
-use Rattle.greenwald_khanna_theory.specs.State.{rank}
 use Rattle.greenwald_khanna.specs.declared.Stream.{Stream}
 use Rattle.greenwald_khanna.specs.declared.Opened.the-variants.{Open}
 use Rattle.greenwald_khanna.specs.declared.Inserted.{Inserted}
 use Rattle.greenwald_khanna.specs.declared.Inserted.the-variants.{Taken, Refused}
-use Rattle.greenwald_khanna.specs.Answers.{opened, openedList, inserted, insertedList, leftBy, quantiled}
-use Rattle.greenwald_khanna.specs.Demand3.{Given, given, streamAfter, offered, run, takenBy, accepted, Answered, Bounded, asked, Demand3}
+use Rattle.greenwald_khanna.specs.Answers.{opened, openedList, inserted, insertedList}
+use Rattle.greenwald_khanna.specs.Demand3.{Given, given, streamAfter, offered, run, takenBy, accepted, Bounded, asked, Demand3}
 use Rattle.greenwald_khanna.specs.Limits.{slotsOk}
 use Rattle.greenwald_khanna.specs.Sound.{sound, stateOf}
 use Rattle.greenwald_khanna.proofs.Asking.{answered-within}

@@ -1,11 +1,11 @@
 -- What an answer says of the tests before it, and the tests of the answer.
 -- Assumes nothing.
-use mathlib.Core.Path.{_≡_, refl, sym, ap, _∙_}
-use Prim.Native.Nat.{ℕ, suc, _<_, _≤_}
+use mathlib.Core.Path.{_≡_, refl}
+use Prim.Native.Nat.{ℕ, suc}
 use mathlib.Core.Bool.{Bool, true, false, cond, not}
 use mathlib.Core.List.{List}
 use native.Mathlib.Omega.{arith}
-use borrow.Author.Tests.{leb-false, le-leb, lt-leb}
+use borrow.Author.Tests.{leb-false, lt-leb}
 use lib.Dec.{leb}
 use lib.ListN.{length}
 use Rattle.refusal.specs.declared.Refusal.the-variants.{Slots, Epsilon, Damaged, Count, Full, Phi}
@@ -21,7 +21,7 @@ use Rattle.greenwald_khanna.specs.declared.Opened.{Opened}
 use Rattle.greenwald_khanna.specs.declared.Opened.the-variants as opening
 use Rattle.greenwald_khanna.specs.declared.Answer.{Answer}
 use Rattle.greenwald_khanna.specs.declared.Answer.the-variants as asking
-use Rattle.greenwald_khanna.specs.Answers.{opened, openedList, after, streamOf, inserted, insertedList, valueOf, quantiled}
+use Rattle.greenwald_khanna.specs.Answers.{opened, after, streamOf, inserted, insertedList, valueOf, quantiled}
 use Rattle.greenwald_khanna.specs.Limits.{observations, slotsOk}
 use Rattle.greenwald_khanna.specs.Sound.{sound, stateOf}
 use Rattle.greenwald_khanna.specs.Steps.{Accepts}

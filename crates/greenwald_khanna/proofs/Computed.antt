@@ -30,5 +30,6 @@ computed = record {
   from-the-last = refl;
   sharp-below = refl;
   sharp-above = refl;
+  under-the-comment = refl;
   zero-not-least = refl;
 }

@@ -1,7 +1,7 @@
 -- Each refusal is given exactly when its test fails and the tests before it pass.
 -- Assumes nothing.
-use mathlib.Core.Path.{_≡_, refl, sym, ap, _∙_}
-use Prim.Native.Nat.{ℕ, _<_, _≤_}
+use mathlib.Core.Path.{_≡_, refl, ap, _∙_}
+use Prim.Native.Nat.{ℕ, _<_}
 use mathlib.Core.Bool.{Bool, true, false, cond, not}
 use mathlib.Core.Option.{Option, none, some}
 use mathlib.Core.List.{List}
@@ -16,9 +16,7 @@ use Rattle.entries.specs.declared.Entry.{Entry}
 use Rattle.entries.proofs.Choose.{by-order}
 use Rattle.greenwald_khanna_theory.specs.State.{quantile}
 use Rattle.greenwald_khanna.specs.declared.Stream.{Stream}
-use Rattle.greenwald_khanna.specs.declared.Opened.{Opened}
 use Rattle.greenwald_khanna.specs.declared.Opened.the-variants as opening
-use Rattle.greenwald_khanna.specs.declared.Inserted.{Inserted}
 use Rattle.greenwald_khanna.specs.declared.Inserted.the-variants as inserting
 use Rattle.greenwald_khanna.specs.declared.Answer.{Answer}
 use Rattle.greenwald_khanna.specs.declared.Answer.the-variants.{Value, Refused}
@@ -26,7 +24,6 @@ use Rattle.greenwald_khanna.specs.Answers.{opened, after, streamOf, inse
 use Rattle.greenwald_khanna.specs.Limits.{observations, slotsOk}
 use Rattle.greenwald_khanna.specs.Refusals.{OpenExactly, InsertExactly, QuantileExactly, ToldExactly}
 use Rattle.greenwald_khanna.specs.Sound.{sound, stateOf}
-use Rattle.greenwald_khanna.specs.Steps.{Accepts}
 use Rattle.greenwald_khanna.proofs.Asking.{quantile-none, quantile-some}
 use Rattle.greenwald_khanna.proofs.Cases.{differ, freshStream, openTested, open-passes, tested, taken-passes, passes-taken, askTested, value-passes, passes-value}
 use Rattle.greenwald_khanna.proofs.Sounds.{sound-facts}

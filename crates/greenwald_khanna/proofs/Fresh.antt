@@ -1,7 +1,6 @@
 -- A stream that opening gives is sound over the list that opening leaves, and the empty list explains it.
 -- Assumes nothing.
-use mathlib.Core.Path.{_≡_, refl, sym, ap, _∙_}
-use Prim.Native.Nat.{ℕ}
+use mathlib.Core.Path.{_≡_, ap, _∙_}
 use mathlib.Core.Bool.{true}
 use mathlib.Core.List.{List, []}
 use native.Mathlib.Omega.{arith}
@@ -15,7 +14,6 @@ use Rattle.greenwald_khanna_theory.proofs.Explaining.{fresh-sound}
 use Rattle.greenwald_khanna.specs.declared.Stream.{Stream}
 use Rattle.greenwald_khanna.specs.declared.Opened.the-variants.{Open}
 use Rattle.greenwald_khanna.specs.Answers.{opened, openedList}
-use Rattle.greenwald_khanna.specs.Limits.{slotsOk}
 use Rattle.greenwald_khanna.specs.Sound.{sound, stateOf}
 use Rattle.greenwald_khanna.proofs.Cases.{open-passes}
 use Rattle.greenwald_khanna.proofs.Sounds.{facts-sound}

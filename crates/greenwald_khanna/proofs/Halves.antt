@@ -4,12 +4,10 @@ use mathlib.Core.Path.{_≡_, refl, sym, ap, _∙_}
 use Prim.Native.Nat.{ℕ, suc, _+_, _-_, _%_, _≤_, _<_}
 use mathlib.Core.Bool.{true}
 use mathlib.Core.List.{List, [], _∷_, _++_, map-append}
-use native.Mathlib.Numerals.{add-one}
 use native.Mathlib.Omega.{arith}
 use borrow.Author.Tests.{eq-eqb, ne-eqb}
-use lib.Dec.{eqb}
-use lib.ListN.{length, take, drop, replicate, length-map}
-use lib.Seq.{length-take-le, take-at}
+use lib.ListN.{length, take, drop, length-map}
+use lib.Seq.{length-take-le}
 use Rattle.fraction.specs.declared.Fraction.{Fraction}
 use Rattle.fraction.specs.Allowed.{isEpsilon, within}
 use Rattle.fraction.specs.Products.{pOf, period}
@@ -23,11 +21,10 @@ use Rattle.greenwald_khanna_theory.specs.State.{State, grown, tidied, insert}
 use Rattle.greenwald_khanna_theory.specs.Summary.{newDelta, putIn, compress}
 use Rattle.greenwald_khanna_rows.specs.Compress.{CompressPost}
 use Rattle.greenwald_khanna.specs.declared.Stream.{Stream}
-use Rattle.greenwald_khanna.specs.Answers.{streamOf}
 use Rattle.greenwald_khanna.specs.Sound.{stateOf}
 use Rattle.greenwald_khanna.specs.Steps.{Holds}
 use Rattle.greenwald_khanna.proofs.Layouts.{layout-front, layout-holds, layout-behind}
-use Rattle.greenwald_khanna.proofs.Lengths.{compress-length, grown-length, tidied-length}
+use Rattle.greenwald_khanna.proofs.Lengths.{compress-length, grown-length}
 
 -- the delta of a new entry
 pub delta-front : (p pos held : ℕ) → pos ≡ 0 → 0 ≡ newDelta p pos held

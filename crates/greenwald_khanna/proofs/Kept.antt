@@ -1,29 +1,29 @@
 -- An accepted insert leaves a sound stream, explained by the observation added; a fresh stream is sound; a quantile is within the ranks.
 -- Assumes nothing.
-use mathlib.Core.Path.{_≡_, refl, sym, ap, _∙_, subst}
-use Prim.Native.Nat.{ℕ, suc, _+_, _≤_, _<_}
+use mathlib.Core.Path.{_≡_, refl, sym, ap, subst}
+use Prim.Native.Nat.{ℕ, suc, _≤_}
 use mathlib.Core.Bool.{true}
 use mathlib.Core.List.{List, [], _∷_, _++_}
 use native.Mathlib.Omega.{arith}
-use lib.ListN.{length, take}
+use lib.ListN.{length}
+use lib.Seq.{length-take-le}
 use Rattle.entries.specs.declared.Entry.{Entry}
 use Rattle.entries.specs.Entry.{zeroEntry}
 use Rattle.entries.specs.Lists.{layout}
 use Rattle.fraction.specs.declared.Fraction.{Fraction}
 use Rattle.greenwald_khanna_theory.specs.Explains.{Explains}
 use Rattle.greenwald_khanna_theory.specs.Promises.{Sound, InsertKeeps}
-use Rattle.greenwald_khanna_theory.specs.State.{State, insert}
+use Rattle.greenwald_khanna_theory.specs.State.{State}
 use Rattle.greenwald_khanna_theory.proofs.Explaining.{insert-keeps}
 use Rattle.greenwald_khanna.specs.declared.Stream.{Stream}
 use Rattle.greenwald_khanna.specs.declared.Inserted.the-variants.{Taken}
 use Rattle.greenwald_khanna.specs.Answers.{after, streamOf, inserted, insertedList}
-use Rattle.greenwald_khanna.specs.Limits.{observations}
 use Rattle.greenwald_khanna.specs.Sound.{sound, stateOf}
 use Rattle.greenwald_khanna.specs.Steps.{Accepts}
 use Rattle.greenwald_khanna.proofs.Cases.{taken-passes, taken-list}
 use Rattle.greenwald_khanna.proofs.Layouts.{layout-front, layout-holds, layout-length}
 use Rattle.greenwald_khanna.proofs.Lengths.{insert-length, insert-count}
-use Rattle.greenwald_khanna.proofs.Sounds.{Facts, sound-facts, facts-sound, held-length}
+use Rattle.greenwald_khanna.proofs.Sounds.{Facts, sound-facts, facts-sound}
 
 -- the stream that holds s finds s in the list that holds its entries
 state-back : (ε : Fraction) (s : State) (most : ℕ) (list : List Entry) → stateOf (streamOf ε s) (layout zeroEntry (s .entries) most list) ≡ s
@@ -51,7 +51,7 @@ module _ (st : Stream) (before : List Entry) (x : ℕ) (p : Accepts st before) w
       let b : State = stateOf st before in
       let k = insert-keeps (st .epsilon) b x (f .entries) in
       let back : stateOf (streamOf (st .epsilon) new) left ≡ new = state-back (st .epsilon) new (suc (st .held)) before in
-      let most : length (new .entries) ≤ suc (st .held) = omega (arith, insert-length (st .epsilon) b x, held-length st before (f .room)) in
+      let most : length (new .entries) ≤ suc (st .held) = omega (arith, insert-length (st .epsilon) b x, length-take-le (st .held) before (f .room)) in
       record {
         sound-is = facts-sound (streamOf (st .epsilon) new) left (record {
           epsilon = f .epsilon;

@@ -1,6 +1,6 @@
 -- What each contract allows for one input is one outcome: its equations fix the answer and every word of the lent rows.
 -- Assumes nothing.
-use mathlib.Core.Path.{_≡_, sym, _∙_}
+use mathlib.Core.Path.{sym, _∙_}
 use Rattle.entries.proofs.Maps.{same-words}
 use Rattle.greenwald_khanna.specs.Promises.{OneOpening, OneInsert, OneQuantile, OneFloor}
 

@@ -1,14 +1,13 @@
 -- What the public calls return meets their contracts: the answer and the list by their definitions, and with them demand 3 call by call.
 -- Assumes nothing.
 use mathlib.Core.Path.{_≡_, refl, sym, ap, _∙_}
-use Prim.Native.Nat.{ℕ, suc, _+_, _-_, _≤_, _<_}
-use mathlib.Core.Bool.{Bool, true, false, _&&_}
-use mathlib.Core.Option.{Option, none, some}
-use mathlib.Core.List.{List, [], _∷_, append-nil}
+use Prim.Native.Nat.{ℕ, suc, _-_, _≤_, _<_}
+use mathlib.Core.Bool.{Bool, true, false}
+use mathlib.Core.Option.{some}
+use mathlib.Core.List.{List, append-nil}
 use native.Mathlib.Omega.{arith}
 use borrow.Author.Tests.{le-leb, lt-leb}
-use lib.Dec.{leb}
-use lib.ListN.{length, take, replicate, drop, length-map, drop-of-length-le}
+use lib.ListN.{length, replicate, length-map, drop-of-length-le}
 use Rattle.refusal.specs.declared.Refusal.{Refusal}
 use Rattle.fraction.specs.declared.Fraction.{Fraction}
 use Rattle.fraction.specs.Allowed.{isEpsilon, isPhi, within}
@@ -20,20 +19,17 @@ use Rattle.entries.specs.Entry.{zeroEntry, rowOf, entryOf, entriesOf}
 use Rattle.entries.specs.Lists.{cleared}
 use Rattle.entries.proofs.Maps.{map-cleared}
 use Rattle.greenwald_khanna.specs.declared.Stream.{Stream}
-use Rattle.greenwald_khanna.specs.declared.Opened.{Opened}
 use Rattle.greenwald_khanna.specs.declared.Opened.the-variants as opening
-use Rattle.greenwald_khanna.specs.declared.Inserted.{Inserted}
 use Rattle.greenwald_khanna.specs.declared.Inserted.the-variants as inserting
 use Rattle.greenwald_khanna.specs.declared.Answer.{Answer}
 use Rattle.greenwald_khanna.specs.declared.Answer.the-variants.{Value, Refused}
-use Rattle.greenwald_khanna.specs.Answers.{opened, openedList, after, streamOf, inserted, insertedList, valueOf, quantiled, told, toldP}
+use Rattle.greenwald_khanna.specs.Answers.{opened, after, inserted, insertedList, valueOf, quantiled, told, toldP}
 use Rattle.greenwald_khanna.specs.Limits.{slots, slotsOk}
 use Rattle.greenwald_khanna.specs.Posts.{OpenPost, InsertPost, QuantilePost}
 use Rattle.greenwald_khanna.specs.Sound.{sound, stateOf}
 use Rattle.greenwald_khanna.specs.Steps.{Accepts, Holds}
 use Rattle.greenwald_khanna.proofs.Asking.{value-within}
 use Rattle.greenwald_khanna.proofs.Cases.{differ, freshStream, passes-taken, taken-list, passes-value}
-use Rattle.greenwald_khanna.proofs.Exactly.{open-exactly, told-exactly}
 use Rattle.greenwald_khanna.proofs.Fresh.{opened-fresh}
 use Rattle.greenwald_khanna.proofs.Kept.{inserted-kept}
 use Rattle.greenwald_khanna.proofs.Sounds.{sound-facts}

@@ -1,15 +1,14 @@
 -- A run of inserts, one observation after another, as the loop makes it.
 -- Assumes nothing.
-use mathlib.Core.Path.{_≡_, refl, sym, ap, _∙_}
-use Prim.Native.Nat.{ℕ, suc, _+_, _≤_, _<_}
-use mathlib.Core.List.{List, []}
+use mathlib.Core.Path.{_≡_}
+use Prim.Native.Nat.{ℕ, _+_, _≤_, _<_}
+use mathlib.Core.List.{List}
 use native.Mathlib.Numerals.{add-one}
 use lib.ListN.{length, getD, drop, drop-of-length-le}
 use lib.Seq.{drop-cons}
 use Rattle.entries.specs.declared.Entry.{Entry}
 use Rattle.greenwald_khanna.specs.declared.Stream.{Stream}
 use Rattle.greenwald_khanna.specs.declared.Inserted.{Inserted}
-use Rattle.greenwald_khanna.specs.Answers.{insertedList}
 use Rattle.greenwald_khanna.specs.Demand3.{Given, given, streamAfter, offered, run}
 use Rattle.greenwald_khanna.specs.Posts.{InsertPost}
 

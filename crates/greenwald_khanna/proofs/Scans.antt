@@ -1,6 +1,6 @@
 -- A whole scan meets the contract of `floor`: the three calls' contracts put together, and demand 3 about the answer.
 -- Assumes nothing.
-use mathlib.Core.Path.{_≡_, refl, sym, ap, _∙_}
+use mathlib.Core.Path.{_≡_, sym, ap, _∙_}
 use Prim.Native.Nat.{ℕ}
 use mathlib.Core.List.{List}
 use Rattle.refusal.specs.declared.Refusal.{Refusal}
@@ -12,8 +12,8 @@ use Rattle.greenwald_khanna.specs.declared.Opened.the-variants as openin
 use Rattle.greenwald_khanna.specs.declared.Answer.{Answer}
 use Rattle.greenwald_khanna.specs.declared.Answer.the-variants.{Refused}
 use Rattle.greenwald_khanna.specs.Answers.{opened, openedList}
-use Rattle.greenwald_khanna.specs.Demand3.{Given, given, run, accepted, Bounded, asked, Demand3}
-use Rattle.greenwald_khanna.specs.Floor.{FloorPost, floorBy, scannedBy}
+use Rattle.greenwald_khanna.specs.Demand3.{Given, given, run, asked, Demand3}
+use Rattle.greenwald_khanna.specs.Floor.{FloorPost}
 use Rattle.greenwald_khanna.specs.Posts.{OpenPost, QuantilePost}
 use Rattle.greenwald_khanna.proofs.Bounds.{demand3}
 use Rattle.greenwald_khanna.proofs.Cases.{differ}

@@ -1,6 +1,6 @@
 -- The rules of a sound stream as facts. That held is 0 exactly when n is follows from the others.
 -- Assumes nothing.
-use mathlib.Core.Path.{_≡_, refl, sym, ap, _∙_}
+use mathlib.Core.Path.{_≡_, refl, sym, _∙_}
 use Prim.Native.Nat.{ℕ, _+_, _≤_, _<_}
 use mathlib.Core.Bool.{Bool, true, false, Bool·beq, _&&_, and-eq-true-iff}
 use mathlib.Core.List.{List, [], _∷_}
@@ -102,11 +102,7 @@ sound-facts st list h =
 pub facts-sound : (st : Stream) (list : List Entry) → Facts st list → sound st list ≡ true
 facts-sound st list f = sound-is st list (f .epsilon) (f .count) (f .room) ∙ f .entries
 
--- the held entries are as many as the stream says
-pub held-length : (st : Stream) (list : List Entry) → st .held ≤ length list → length (take (st .held) list) ≡ st .held
-held-length st list h = length-take-le (st .held) list h
-
--- and their values never fall
+-- the values of the held rows never fall
 pub rows-rising : (st : Stream) (rows : List (List ℕ)) → Accepts st (entriesOf rows) → Rising 0 (values (entriesOf (take (st .held) rows)))
 rows-rising st rows a =
     let f : Facts st (entriesOf rows) = sound-facts st (entriesOf rows) (a .unharmed) in
@@ -124,14 +120,15 @@ unfolding HeldWithin
 sums-to-n st list h =
     let f : Facts st list = sound-facts st list h in
     let k = held-within (st .epsilon) (stateOf st list) (f .entries) in
-    (k .0, omega (arith, k .1, held-length st list (f .room)))
+    (k .0, omega (arith, k .1, length-take-le (st .held) list (f .room)))
 
--- with no entry held nothing was accepted
+-- with no entry held, nothing was accepted
 pub held-none : (st : Stream) (list : List Entry) → sound st list ≡ true → st .held < 1 → st .n ≡ 0
 held-none st list h z =
     let zero : st .held ≡ 0 = omega arith in
     let k : sumG (take (st .held) list) ≡ st .n = sums-to-n st list h .0 in
     sym (rw zero at k)
 
+-- no more is held than was lent
 pub sound-room : (st : Stream) (rows : List (List ℕ)) → sound st (entriesOf rows) ≡ true → st .held ≤ length rows
 sound-room st rows h = omega (arith, sound-facts st (entriesOf rows) h .room, length-map rows entryOf)

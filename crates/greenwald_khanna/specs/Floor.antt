@@ -11,7 +11,7 @@ use Rattle.greenwald_khanna.specs.declared.Opened.the-variants as openin
 use Rattle.greenwald_khanna.specs.declared.Answer.{Answer}
 use Rattle.greenwald_khanna.specs.declared.Answer.the-variants.{Refused}
 use Rattle.greenwald_khanna.specs.Answers.{opened, openedList}
-use Rattle.greenwald_khanna.specs.Demand3.{Given, given, run, accepted, Bounded, asked}
+use Rattle.greenwald_khanna.specs.Demand3.{given, run, accepted, Bounded, asked}
 
 -- what an opened stream and its list become when all xs are inserted; `list` is the list that opening left
 abbrev pub scannedBy : Opened → List Entry → List ℕ → List Entry

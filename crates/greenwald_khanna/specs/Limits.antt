@@ -3,16 +3,19 @@
 use Prim.Native.Nat.{ℕ}
 use mathlib.Core.Bool.{Bool, _&&_}
 use lib.Dec.{leb}
+use Rattle.fraction.specs.Allowed.{denominators}
 
--- the most slots that may be lent, the most observations, and the largest denominator
+-- the most slots that may be lent
 abbrev pub slots : ℕ
 slots = 4096
 
+-- the most observations
 abbrev pub observations : ℕ
 observations = 1000000000
 
+-- the largest denominator: the one that allowed fractions have
 abbrev pub denominator : ℕ
-denominator = 65536
+denominator = denominators
 
 -- a lent list of this length is taken
 abbrev pub slotsOk : ℕ → Bool

@@ -61,5 +61,7 @@ pub record StreamReadings : Type 0 where
   pub sharp-below : asked (scan (over 1 4) (2 ∷ 0 ∷ 1 ∷ [])) (over 2 3) ≡ Value 0
   -- and above: r = 2, e = 0, and the answer stands at rank 2 = r + e
   pub sharp-above : asked (scan (over 1 4) (1 ∷ 0 ∷ [])) (over 1 1) ≡ Value 1
+  -- the Rust's comment has ranks from ⌊(φ - ε)n⌋, which is 2 here, and the answer stands at rank 1
+  pub under-the-comment : asked (scan (over 1 4) (2 ∷ 0 ∷ 1 ∷ [])) (over 15 16) ≡ Value 0
   -- φ = 0 need not give the least
   pub zero-not-least : asked (scan (over 3 7) (1 ∷ 1 ∷ 1 ∷ 1 ∷ 0 ∷ [])) (over 0 1) ≡ Value 1

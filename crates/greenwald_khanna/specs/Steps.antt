@@ -1,7 +1,7 @@
--- Where an accepted insert starts, and what each half of it leaves in the lent list.
+-- Where an accepted insert starts, and what it and each half of it leave in the lent list.
 -- Assumes nothing: these are definitions.
 use mathlib.Core.Path.{_≡_}
-use Prim.Native.Nat.{ℕ, _<_}
+use Prim.Native.Nat.{ℕ, suc, _<_}
 use mathlib.Core.Bool.{true}
 use mathlib.Core.List.{List}
 use lib.ListN.{length}
@@ -9,11 +9,11 @@ use Rattle.fraction.specs.declared.Fraction.{Fraction}
 use Rattle.entries.specs.declared.Entry.{Entry}
 use Rattle.entries.specs.Entry.{zeroEntry}
 use Rattle.entries.specs.Lists.{layout}
-use Rattle.greenwald_khanna_theory.specs.State.{State}
+use Rattle.greenwald_khanna_theory.specs.State.{State, grown, tidied}
 use Rattle.greenwald_khanna.specs.declared.Stream.{Stream}
-use Rattle.greenwald_khanna.specs.Answers.{streamOf}
+use Rattle.greenwald_khanna.specs.Answers.{after, streamOf}
 use Rattle.greenwald_khanna.specs.Limits.{observations, slotsOk}
-use Rattle.greenwald_khanna.specs.Sound.{sound}
+use Rattle.greenwald_khanna.specs.Sound.{sound, stateOf}
 
 -- nothing stands against one observation more
 pub record Accepts (st : Stream) (list : List Entry) : Type 0 where
@@ -26,3 +26,13 @@ pub record Accepts (st : Stream) (list : List Entry) : Type 0 where
 pub record Holds (ε : Fraction) (s : State) (most : ℕ) (before : List Entry) (st : Stream) (list : List Entry) : Type 0 where
   pub stream : st ≡ streamOf ε s
   pub entries : list ≡ layout zeroEntry (s .entries) most before
+
+-- the entry put in; the entries compressed; the whole insert
+abbrev pub GrowPost : Stream → List Entry → ℕ → Stream → List Entry → Type 0
+GrowPost st before x = Holds (st .epsilon) (grown (st .epsilon) (stateOf st before) x) (suc (st .held)) before
+
+abbrev pub TidyPost : Stream → List Entry → Stream → List Entry → Type 0
+TidyPost st before = Holds (st .epsilon) (tidied (st .epsilon) (stateOf st before)) (st .held) before
+
+abbrev pub TakePost : Stream → List Entry → ℕ → Stream → List Entry → Type 0
+TakePost st before x = Holds (st .epsilon) (after st before x) (suc (st .held)) before

@@ -9,18 +9,18 @@ use refusal::Refusal;
 ghost use mathlib.Core.Path.{_≡_};
 ghost use mathlib.Core.Bool.{true};
 ghost use mathlib.Core.Option.{some};
-ghost use Prim.Native.Nat.{suc, _≤_, _<_};
+ghost use Prim.Native.Nat.{_≤_, _<_};
 ghost use lib.ListN.{length};
 ghost use Rattle.fraction.specs.Allowed.{isEpsilon};
 ghost use Rattle.fraction.specs.Products.{pOf};
 ghost use Rattle.entries.specs.Entry.{entriesOf};
-ghost use Rattle.greenwald_khanna_theory.specs.State.{insert, grown, tidied, answerAt};
+ghost use Rattle.greenwald_khanna_theory.specs.State.{answerAt};
 ghost use Rattle.greenwald_khanna_theory.specs.Summary.{newDelta};
 ghost use Rattle.greenwald_khanna.specs.Answers.{told};
 ghost use Rattle.greenwald_khanna.specs.Demand3.{given, streamAfter, run};
 ghost use Rattle.greenwald_khanna.specs.Limits.{slots};
 ghost use Rattle.greenwald_khanna.specs.Sound.{sound, stateOf};
-ghost use Rattle.greenwald_khanna.specs.Steps.{Accepts, Holds};
+ghost use Rattle.greenwald_khanna.specs.Steps.{Accepts, GrowPost, TidyPost, TakePost};
 
 // The delta of a new entry at `pos` of `held`: 0 at either end, else p with n taken before the increment.
 fn new_delta(epsilon: Fraction, n: u32, pos: usize, held: usize) -> u32
@@ -38,6 +38,7 @@ fn new_delta(epsilon: Fraction, n: u32, pos: usize, held: usize) -> u32
 
 impl Stream {
     // Whether the stream over the lent list is sound. held is tested before anything is read, and nothing beyond it is.
+    // That held is 0 exactly when n is needs no test: each g is at least 1, and the g sum to n.
     pub(crate) fn is_sound(self, rows: &[[u32; 3]]) -> bool
         requires { ⌜ length (now rows) ≤ slots ⌝ }
         ensures { λ r. ⌜ r ≡ sound self (entriesOf (now (rows .entry))) ⌝ }
@@ -59,16 +60,17 @@ impl Stream {
     // The first half of an insert: the new entry goes to its place.
     pub(crate) fn grow(self, rows: &mut [[u32; 3]], v: u32) -> Stream
         requires { ⌜ Accepts self (entriesOf (now rows)) ⌝ }
-        ensures { λ r. ⌜ Holds (self .epsilon) (grown (self .epsilon) (stateOf self (entriesOf (now (rows .entry)))) v) (suc (self .held)) (entriesOf (now (rows .entry))) r (entriesOf (now (rows .exit))) ⌝ }
+        ensures { λ r. ⌜ GrowPost self (entriesOf (now (rows .entry))) v r (entriesOf (now (rows .exit))) ⌝ }
     {
         let epsilon = self.epsilon;
         let held = self.held as usize;
+        let n = self.n + 1;
         let pos = search::place(&rows[..held], v);
         let delta = new_delta(epsilon, self.n, pos, held);
         room::insert_at(rows, held, pos, [v, 1, delta]);
         Stream {
             epsilon,
-            n: self.n + 1,
+            n,
             held: self.held + 1,
         }
     }
@@ -76,7 +78,7 @@ impl Stream {
     // The second half, when its time has come: the entries are compressed with p of the stream's own n.
     pub(crate) fn tidy(self, rows: &mut [[u32; 3]]) -> Stream
         requires { ⌜ (isEpsilon (self .epsilon) ≡ true) × (self .held ≤ length (now rows)) ⌝ }
-        ensures { λ r. ⌜ Holds (self .epsilon) (tidied (self .epsilon) (stateOf self (entriesOf (now (rows .entry))))) (self .held) (entriesOf (now (rows .entry))) r (entriesOf (now (rows .exit))) ⌝ }
+        ensures { λ r. ⌜ TidyPost self (entriesOf (now (rows .entry))) r (entriesOf (now (rows .exit))) ⌝ }
     {
         let epsilon = self.epsilon;
         let held = greenwald_khanna_rows::compress(rows, self.held as usize, epsilon.p(self.n));
@@ -90,7 +92,7 @@ impl Stream {
     // One observation more, once nothing stands against it.
     pub(crate) fn take(self, rows: &mut [[u32; 3]], v: u32) -> Stream
         requires { ⌜ Accepts self (entriesOf (now rows)) ⌝ }
-        ensures { λ r. ⌜ Holds (self .epsilon) (insert (self .epsilon) (stateOf self (entriesOf (now (rows .entry)))) v) (suc (self .held)) (entriesOf (now (rows .entry))) r (entriesOf (now (rows .exit))) ⌝ }
+        ensures { λ r. ⌜ TakePost self (entriesOf (now (rows .entry))) v r (entriesOf (now (rows .exit))) ⌝ }
     {
         let epsilon = self.epsilon;
         let grown = self.grow(rows, v);

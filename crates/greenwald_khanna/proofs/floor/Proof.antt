@@ -1,6 +1,5 @@
 -- `greenwald_khanna::floor` meets its contract: those of opening, of all inserts and of the quantile, put together.
 -- Assumes nothing.
-use native.Mathlib.Omega.{arith}
 use borrow.Author.Needs.{needs}
 use Rattle.entries.specs.Entry.{entriesOf}
 use Rattle.greenwald_khanna.proofs.Scans.{floor-refused, floor-answered}

@@ -1,11 +1,10 @@
 -- `greenwald_khanna::Stream::at_rank` meets its contract: the walk over the held rows is the walk over their entries.
 -- Assumes nothing.
-use mathlib.Core.Path.{_≡_, refl, sym, ap, _∙_}
+use mathlib.Core.Path.{sym}
 use native.Mathlib.Omega.{arith}
 use borrow.Author.Needs.{needs}
-use lib.ListN.{length, length-map}
 use lib.Seq.{length-take-le}
-use Rattle.entries.specs.Entry.{entryOf, entriesOf}
+use Rattle.entries.specs.Entry.{entriesOf}
 use Rattle.fraction.proofs.Laws.{e-le}
 use Rattle.fraction.proofs.Tests.{epsilon-facts}
 use Rattle.greenwald_khanna.proofs.Asking.{looked-up}

@@ -1,10 +1,10 @@
 -- `greenwald_khanna::Stream::insert` meets its contract: each return is a case of the definition.
 -- Assumes nothing.
-use mathlib.Core.Path.{_≡_, refl, sym, ap, _∙_}
+use mathlib.Core.Path.{_≡_, sym, _∙_}
 use mathlib.Core.Bool.{true, false}
 use native.Mathlib.Omega.{arith}
 use borrow.Author.Needs.{needs}
-use lib.ListN.{length, length-map}
+use lib.ListN.{length-map}
 use Rattle.entries.specs.Entry.{entryOf, entriesOf}
 use Rattle.refusal.specs.declared.Refusal.the-variants.{Slots, Damaged, Count, Full}
 use Rattle.greenwald_khanna.specs.Sound.{sound}

@@ -1,10 +1,10 @@
 -- `greenwald_khanna::Stream::is_sound` meets its contract: each test that fails is a rule broken, and the last one decides.
 -- Assumes nothing.
-use mathlib.Core.Path.{_≡_, refl, sym, ap, _∙_}
+use mathlib.Core.Path.{_≡_, sym, _∙_}
 use mathlib.Core.Bool.{true, false}
 use native.Mathlib.Omega.{arith}
 use borrow.Author.Needs.{needs}
-use lib.ListN.{length, length-map}
+use lib.ListN.{length-map}
 use lib.Seq.{length-take-le}
 use Rattle.entries.specs.Entry.{entryOf, entriesOf}
 use Rattle.fraction.specs.Allowed.{isEpsilon}

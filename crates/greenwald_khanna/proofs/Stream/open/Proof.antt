@@ -1,10 +1,10 @@
 -- `greenwald_khanna::Stream::open` meets its contract: each return is a case of the definition, and all rows cleared are zero entries.
 -- Assumes nothing.
-use mathlib.Core.Path.{_≡_, refl, sym, ap, _∙_}
+use mathlib.Core.Path.{_≡_, sym, _∙_}
 use mathlib.Core.Bool.{true, false}
 use native.Mathlib.Omega.{arith}
 use borrow.Author.Needs.{needs}
-use Rattle.entries.specs.Entry.{entryOf, entriesOf}
+use Rattle.entries.specs.Entry.{entriesOf}
 use Rattle.refusal.specs.declared.Refusal.the-variants.{Slots, Epsilon}
 use Rattle.fraction.specs.Allowed.{isEpsilon}
 use Rattle.greenwald_khanna.proofs.Exactly.{open-exactly}

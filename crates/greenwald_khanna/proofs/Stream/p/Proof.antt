@@ -1,9 +1,8 @@
 -- `greenwald_khanna::Stream::p` meets its contract: of a sound stream, whose ε is allowed, `Fraction::p` is p.
 -- Assumes nothing.
-use mathlib.Core.Path.{_≡_, refl, sym, ap, _∙_}
-use native.Mathlib.Omega.{arith}
+use mathlib.Core.Path.{_∙_}
 use borrow.Author.Needs.{needs}
-use Rattle.entries.specs.Entry.{entryOf, entriesOf}
+use Rattle.entries.specs.Entry.{entriesOf}
 use Rattle.greenwald_khanna.proofs.Returns.{told-p}
 use Rattle.greenwald_khanna.proofs.Stream.p.Statement.{statement}
 use Rattle.greenwald_khanna.proofs.Stream.p.Tie as tie

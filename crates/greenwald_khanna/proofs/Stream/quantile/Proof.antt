@@ -1,17 +1,16 @@
 -- `greenwald_khanna::Stream::quantile` meets its contract: each return is a case of the definition.
 -- Assumes nothing.
-use mathlib.Core.Path.{_≡_, refl, sym, ap, _∙_}
+use mathlib.Core.Path.{_≡_, sym, _∙_}
 use mathlib.Core.Bool.{true, false}
 use native.Mathlib.Omega.{arith}
 use borrow.Author.Needs.{needs}
-use lib.ListN.{length, length-map}
-use Rattle.entries.specs.Entry.{entryOf, entriesOf}
+use Rattle.entries.specs.Entry.{entriesOf}
 use Rattle.fraction.specs.Allowed.{isPhi}
 use Rattle.fraction.proofs.Laws.{e-le}
 use Rattle.greenwald_khanna.specs.Sound.{sound}
 use Rattle.greenwald_khanna.proofs.Exactly.{quantile-exactly}
 use Rattle.greenwald_khanna.proofs.Returns.{few, many, enough, asked-post, asked-value}
-use Rattle.greenwald_khanna.proofs.Sounds.{sound-facts, held-none}
+use Rattle.greenwald_khanna.proofs.Sounds.{held-none}
 use Rattle.greenwald_khanna.proofs.Stream.quantile.Statement.{statement}
 use Rattle.greenwald_khanna.proofs.Stream.quantile.Tie as tie
 

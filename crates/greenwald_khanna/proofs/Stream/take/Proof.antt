@@ -1,11 +1,10 @@
 -- `greenwald_khanna::Stream::take` meets its contract: the two halves, the second where the period divides the new n.
 -- Assumes nothing.
-use mathlib.Core.Path.{_≡_, refl, sym, ap, _∙_}
+use mathlib.Core.Path.{sym, ap, _∙_}
 use Prim.Native.Nat.{ℕ, _%_}
 use native.Mathlib.Omega.{arith}
 use borrow.Author.Needs.{needs}
-use lib.ListN.{length, length-map}
-use Rattle.entries.specs.Entry.{entryOf, entriesOf}
+use Rattle.entries.specs.Entry.{entriesOf}
 use Rattle.fraction.specs.Products.{period}
 use Rattle.fraction.proofs.Laws.{period-pos}
 use Rattle.greenwald_khanna.proofs.Halves.{grown-fits, insert-grown, insert-tidied}

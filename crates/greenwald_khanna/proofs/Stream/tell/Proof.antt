@@ -1,10 +1,10 @@
 -- `greenwald_khanna::Stream::tell` meets its contract: each return is a case of the definition.
 -- Assumes nothing.
-use mathlib.Core.Path.{_≡_, refl, sym, ap, _∙_}
+use mathlib.Core.Path.{_≡_, sym, _∙_}
 use mathlib.Core.Bool.{true, false}
 use native.Mathlib.Omega.{arith}
 use borrow.Author.Needs.{needs}
-use Rattle.entries.specs.Entry.{entryOf, entriesOf}
+use Rattle.entries.specs.Entry.{entriesOf}
 use Rattle.greenwald_khanna.specs.Sound.{sound}
 use Rattle.greenwald_khanna.proofs.Exactly.{told-exactly}
 use Rattle.greenwald_khanna.proofs.Returns.{few, many, enough}

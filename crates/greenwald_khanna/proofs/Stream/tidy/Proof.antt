@@ -1,9 +1,7 @@
 -- `greenwald_khanna::Stream::tidy` meets its contract: what `compress` leaves is what the definition says, with the same n.
 -- Assumes nothing.
-use mathlib.Core.Path.{_≡_, refl, sym, ap, _∙_}
 use native.Mathlib.Omega.{arith}
 use borrow.Author.Needs.{needs}
-use Rattle.entries.specs.Entry.{entryOf, entriesOf}
 use Rattle.greenwald_khanna.proofs.Halves.{tidied-holds, compressed-few}
 use Rattle.greenwald_khanna.proofs.Stream.tidy.Statement.{statement}
 use Rattle.greenwald_khanna.proofs.Stream.tidy.Tie as tie

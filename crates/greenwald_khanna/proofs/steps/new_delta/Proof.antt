@@ -1,6 +1,6 @@
 -- `greenwald_khanna::steps::new_delta` meets its contract: one law for each of its three returns.
 -- Assumes nothing.
-use mathlib.Core.Path.{_≡_, refl, sym, ap, _∙_}
+use mathlib.Core.Path.{_∙_}
 use borrow.Author.Needs.{needs}
 use Rattle.fraction.specs.Products.{pOf}
 use Rattle.fraction.proofs.Tests.{within-true}
