@@ -1,0 +1,3 @@
+pub mod By
+pub mod Copies
+pub mod Of

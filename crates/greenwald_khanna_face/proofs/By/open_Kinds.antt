@@ -1,0 +1,63 @@
+-- Machine-made by tools/port from the twin of `greenwald_khanna_face::open`: never edited; tools/port/remake makes it anew.
+use Rattle.entries_face.proofs.Of
+use Rattle.fraction.proofs.Fraction
+use Rattle.fraction.proofs.Fraction.Laws
+use Rattle.greenwald_khanna.proofs.Opened
+use Rattle.greenwald_khanna.proofs.Opened.Laws as Laws'
+use borrow.Fn.Kinds
+use borrow.Kind.MutSlice
+use borrow.Kind.Value
+use borrow.Rule.Local
+use borrow.Table.Referent
+use borrow.Table.Rows
+use denote.Array
+use denote.Enum.Declared
+use denote.Enum.Laws as Laws''
+use denote.Exit
+use denote.Struct.Declared as Declared'
+use denote.Struct.Laws as Laws'3
+use mathlib.Core.List
+use mathlib.Core.Path as Path'
+use mir.Syntax
+
+abbrev pub ps : List.List (Kinds.PK 1)
+ps = List._∷_ (Value.pVal record {
+  ty = Declared'.row Fraction.the-type;
+  one = Path'.refl;
+  val = Laws'3.val Fraction.the-type Laws.the-laws;
+  tells = Laws'3.tells Fraction.the-type
+      Laws.the-laws;
+  still = Laws'3.still Fraction.the-type Laws.the-copy Exit.yes;
+  row = Rows.whole (Declared'.row Fraction.the-type);
+  rd = λ x. x;
+  mk = λ x. x;
+} λ M 𝓤 H A W.
+    record {
+      copies = Laws'3.copy Fraction.the-type Laws.the-copy 𝓤 H A W;
+      lawful = Laws'3.lawful Fraction.the-type Laws.the-laws 𝓤 H A W;
+      makes = Laws'3.makes Fraction.the-type
+          Laws.the-plain 𝓤 H A;
+      in-mem = Local.mem-whole 𝓤 H A W (Declared'.row Fraction.the-type);
+      of-mem = Local.whole-mem 𝓤 H A W (Declared'.row Fraction.the-type);
+    }) (List._∷_
+    (MutSlice.pMutS Of.R 0 tt) List.[])
+
+abbrev pub r : Kinds.RK 1
+r = Value.rVal record {
+  ty = Declared.row Opened.the-type;
+  one = Path'.refl;
+  val = Laws''.val Opened.the-type Laws'.the-laws;
+  tells = Laws''.tells Opened.the-type Laws'.the-laws;
+  still = Laws''.still Opened.the-type Laws'.the-copy Exit.yes;
+  row = Rows.whole (Declared.row Opened.the-type);
+  rd = λ x. x;
+  mk = λ x. x;
+} λ M 𝓤 H A W. record {
+  copies =
+      Laws''.copy Opened.the-type Laws'.the-copy 𝓤 H A W;
+  lawful = Laws''.lawful Opened.the-type Laws'.the-laws 𝓤 H A W tt;
+  makes = Laws''.makes Opened.the-type Laws'.the-plain 𝓤 H
+      A;
+  in-mem = Local.mem-whole 𝓤 H A W (Declared.row Opened.the-type);
+  of-mem = Local.whole-mem 𝓤 H A W (Declared.row Opened.the-type);
+}

@@ -1,0 +1,3 @@
+pub mod By
+pub mod Near
+pub mod Posts

@@ -1,0 +1,54 @@
+// The core's calls on the first k rows of a longer slice, and how many rows a call can need.
+use fraction::Fraction;
+use greenwald_khanna::Answer;
+use greenwald_khanna::Inserted;
+use greenwald_khanna::Stream;
+ghost use mathlib.Core.Path.{_≡_};
+ghost use Prim.Native.Nat.{_≤_};
+ghost use lib.ListN.{length, take};
+ghost use Rattle.entries.specs.Entry.{entriesOf};
+ghost use Rattle.greenwald_khanna.specs.Answers.{inserted, insertedList};
+ghost use Rattle.greenwald_khanna_face.specs.Questions.{answerTo};
+ghost use Rattle.greenwald_khanna_face.specs.Reach.{reach};
+
+// What a stream can be asked.
+pub(crate) enum Question {
+    Quantile(Fraction),
+    P,
+    N,
+    S,
+}
+
+// How many slots a call can need: those held and one more, if there is one more.
+pub(crate) fn reach(stream: Stream, slots: usize) -> usize
+    ensures { λ r. ⌜ (r ≡ reach (stream .held) slots) × (r ≤ slots) ⌝ }
+{
+    let held = stream.held as usize;
+    if held < slots {
+        return held + 1;
+    }
+    slots
+}
+
+// The core's insert, on the first k rows.
+pub(crate) fn insert(stream: Stream, rows: &mut [[u32; 3]], k: usize, v: u32) -> Inserted
+    requires { ⌜ k ≤ length (now rows) ⌝ }
+    ensures answer { λ r. ⌜ r ≡ inserted stream (entriesOf (take k (now (rows .entry)))) v ⌝ }
+    ensures rows { λ _. ⌜ entriesOf (take k (now (rows .exit))) ≡ insertedList stream (entriesOf (take k (now (rows .entry)))) v ⌝ }
+{
+    stream.insert(&mut rows[..k], v)
+}
+
+// The core's answer, from the first k rows.
+pub(crate) fn ask(stream: Stream, rows: &[[u32; 3]], k: usize, question: Question) -> Answer
+    requires { ⌜ k ≤ length (now rows) ⌝ }
+    ensures { λ r. ⌜ r ≡ answerTo question stream (entriesOf (take k (now (rows .entry)))) ⌝ }
+{
+    let part = &rows[..k];
+    match question {
+        Question::Quantile(phi) => stream.quantile(part, phi),
+        Question::P => stream.p(part),
+        Question::N => stream.n(part),
+        Question::S => stream.s(part),
+    }
+}
