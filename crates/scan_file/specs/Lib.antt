@@ -1,0 +1,4 @@
+pub mod Answers
+pub mod Layout
+pub mod Promises
+pub mod Words

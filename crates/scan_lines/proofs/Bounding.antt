@@ -1,0 +1,119 @@
+-- Demand 3 of a scan that stops at the first refusal: the accepted observations are the first n, and they explain the stream.
+-- Assumes nothing.
+use mathlib.Core.Path.{_≡_, refl, sym, ap, _∙_}
+use mathlib.Core.List.{List, [], _∷_, _++_, append-nil}
+use Prim.Native.Nat.{ℕ, suc, _≤_, _<_}
+use native.Mathlib.Omega.{arith}
+use lib.ListN.{length, take, length-take}
+use lib.Seq.{append-snoc}
+use Rattle.refusal.specs.declared.Refusal.{Refusal}
+use Rattle.refusal.specs.declared.Refusal.the-variants as R
+use Rattle.refusal.specs.Number.{numberOf}
+use Rattle.fraction.specs.declared.Fraction.{Fraction}
+use Rattle.entries.specs.declared.Entry.{Entry}
+use Rattle.entries.proofs.Maps.{same-words}
+use Rattle.greenwald_khanna.specs.declared.Stream.{Stream}
+use Rattle.greenwald_khanna.specs.declared.Opened.the-variants.{Open}
+use Rattle.greenwald_khanna.specs.declared.Inserted.{Inserted}
+use Rattle.greenwald_khanna.specs.declared.Inserted.the-variants.{Taken, Refused}
+use Rattle.greenwald_khanna.specs.Answers.{opened, openedList, inserted, insertedList}
+use Rattle.greenwald_khanna.specs.Demand3.{given}
+use Rattle.greenwald_khanna.specs.Limits.{slotsOk}
+use Rattle.greenwald_khanna.proofs.Bounds.{Good, good-opened, good-asked}
+use Rattle.greenwald_khanna.proofs.Kept.{inserted-kept}
+use Rattle.scan_file.specs.Layout.{Scan}
+use Rattle.scan_text.proofs.Texts.{put-one}
+use Rattle.scan_lines.specs.Inserts.{End, onward, insertAll}
+use Rattle.scan_lines.specs.Promises.{ValuesBounded, AllOrRefused, OneReport, endFrom}
+
+-- every refusal has a number above 0
+pub numbered : (why : Refusal) → 1 ≤ numberOf why
+numbered R.Slots = omega arith
+numbered R.Epsilon = omega arith
+numbered R.Block = omega arith
+numbered R.Damaged = omega arith
+numbered R.Count = omega arith
+numbered R.Full = omega arith
+numbered R.Phi = omega arith
+numbered R.Empty = omega arith
+numbered R.BoundsEmpty = omega arith
+numbered R.BoundsMany = omega arith
+numbered R.BoundsOrder = omega arith
+numbered R.File = omega arith
+
+-- k of xs went in behind X, and the stream is good
+pub record Went (ε : Fraction) (X xs : List ℕ) (e : End) : Type 0 where
+  pub count : ℕ
+  pub most : count ≤ length xs
+  pub good : Good ε (X ++ take count xs) (given (e .ran .stream) (e .list))
+  pub whole : e .ran .refused ≡ 0 → count ≡ length xs
+  pub cut : (e .ran .refused ≡ 0 → ⊥) → count < length xs
+
+pub insert-good : (ε : Fraction) (X xs : List ℕ) (st : Stream) (list : List Entry) → Good ε X (given st list) → Went ε X xs (insertAll st list xs)
+unfolding insertAll
+insert-good ε X [] st list g = record {
+  count = 0;
+  most = omega arith;
+  good = rw (append-nil X) g;
+  whole = λ _. refl;
+  cut = λ h. absurd (h refl);
+}
+insert-good ε X (x ∷ xs) st list g = go (inserted st list x) refl (λ next h. insert-good ε (X ++ x ∷ []) xs next (insertedList st list x) h)
+  where
+    rest : Stream → End
+    rest next = insertAll next (insertedList st list x) xs
+
+    go : (a : Inserted) → inserted st list x ≡ a
+        → ((next : Stream) → Good ε (X ++ x ∷ []) (given next (insertedList st list x)) → Went ε (X ++ x ∷ []) xs (rest next))
+        → Went ε X (x ∷ xs) (onward a st (insertedList st list x) rest)
+    go (Taken next) e on =
+        let k = inserted-kept st list x next e in
+        let w = on next (record {
+          epsilon = k .epsilon ∙ g .epsilon;
+          slots = ap slotsOk (k .slots) ∙ g .slots;
+          sound-is = k .sound-is;
+          explained = k .explained X (g .explained);
+        }) in
+        let same = append-snoc X x (take (w .count) xs) in
+        record {
+          count = suc (w .count);
+          most = omega (arith, w .most);
+          good = rw same at (w .good);
+          whole = λ z. ap suc (w .whole z);
+          cut = λ z. let h = w .cut z in omega arith;
+        }
+    go (Refused why) e on =
+        let kept : insertedList st list x ≡ list = rw e in
+        let h = numbered why in
+        record {
+          count = 0;
+          most = omega arith;
+          good = rw (append-nil X, kept) g;
+          whole = λ z. absurd (omega arith);
+          cut = λ z. omega arith;
+        }
+
+module _ (s : Scan) (list : List Entry) (st : Stream) (e : opened (s .epsilon) list ≡ Open st) where
+  went : Went (s .epsilon) [] (s .observations) (endFrom s list st)
+  went = insert-good (s .epsilon) [] (s .observations) st (openedList (s .epsilon) list) (good-opened (s .epsilon) list st e)
+
+  counted : endFrom s list st .ran .stream .n ≡ went .count
+  counted = sym (went .good .explained .members) ∙ length-take (went .count) (s .observations) ∙ (let m = went .most in omega arith)
+
+pub values-bounded : ValuesBounded
+unfolding ValuesBounded
+values-bounded s list st e φ =
+    let w = went s list st e in
+    rw (counted s list st e) (good-asked (s .epsilon) (take (w .count) (s .observations)) _ φ (w .good))
+
+pub all-or-refused : AllOrRefused
+unfolding AllOrRefused
+all-or-refused s list st e =
+    let w = went s list st e in
+    (λ z. counted s list st e ∙ w .whole z, λ z. let h = w .cut z in omega (arith, counted s list st e))
+
+pub one-report : OneReport
+unfolding OneReport
+one-report bytes before out r s xs ys l m t u p q =
+    let o = put-one r s l m (p .written) (q .written) in
+    (o .0, same-words xs ys t u (p .left ∙ sym (q .left)), o .1)

@@ -1,0 +1,5 @@
+pub mod Bounding
+pub mod Examples
+pub mod Inserting
+pub mod Reporting
+pub mod Writing
