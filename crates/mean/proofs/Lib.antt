@@ -1,3 +1,3 @@
-mod Examples
-mod Rounded
-mod Steps
+pub mod Examples
+pub mod Rounded
+pub mod Steps

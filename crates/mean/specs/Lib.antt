@@ -1,4 +1,4 @@
 pub mod Mean
-pub mod Post
+pub mod Posts
 pub mod Promises
 pub mod Readings

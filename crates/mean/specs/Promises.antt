@@ -3,7 +3,7 @@
 use mathlib.Core.Path.{_≡_}
 use Prim.Native.Nat.{ℕ}
 use Rattle.mean.specs.declared.Mean.{Mean}
-use Rattle.mean.specs.Post.{FirstPost, NextPost}
+use Rattle.mean.specs.Posts.{FirstPost, NextPost}
 use Rattle.mean.specs.Readings.{MeanReadings}
 
 pub record MeanPromises : Type 0 where

@@ -2,7 +2,7 @@
 // Every function takes any words and any f64: nothing traps, and specs/ says what comes out.
 ghost use mathlib.Core.Path.{_≡_};
 ghost use Rattle.mean.specs.Mean.{finite};
-ghost use Rattle.mean.specs.Post.{FirstPost, NextPost};
+ghost use Rattle.mean.specs.Posts.{FirstPost, NextPost};
 ghost use Rattle.mean.specs.Promises.{MeanPromises};
 
 pub struct Mean {

@@ -8,8 +8,8 @@ use Rattle.mean.proofs.promises.Tie as tie
 returns : tie.Need-returns
 returns c =
     record {
-      one-first = λ v r s h k. h .answer ∙ sym (k .answer);
-      one-next = λ m v n r s h k. h .answer ∙ sym (k .answer);
+      one-first = λ v r s h k. h .answered ∙ sym (k .answered);
+      one-next = λ m v n r s h k. h .answered ∙ sym (k .answered);
       readings = readings;
     }
 

@@ -12,7 +12,7 @@ int-to-float-t2 c = search needs
 returns : tie.Need-returns
 returns c =
     let a = c .before in
-    record { answer = refl; is-finite = first-finite (a .args .v) (a .fits .v .fits); in-range = first-in (a .args .v) (a .fits .v .fits) }
+    record { answered = refl; is-finite = first-finite (a .args .v) (a .fits .v .fits); in-range = first-in (a .args .v) (a .fits .v .fits) }
 
 pub first-spec : {M : Type 1} → statement M
 first-spec = tie.close (tie.spec int-to-float-t2 returns)

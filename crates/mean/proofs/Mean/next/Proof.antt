@@ -30,7 +30,7 @@ returns c =
     let n = a .args .n in
     let s = a .args .self .value in
     record {
-      answer = refl;
+      answered = refl;
       stays-finite = λ one h. next-finite v n (a .fits .v .fits) (a .fits .n .fits) one s (held a) h;
       stays-in-range = λ two h. next-in v n (a .fits .v .fits) (a .fits .n .fits) (at-least-one n two) two s (held a) h;
     }

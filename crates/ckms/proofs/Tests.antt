@@ -1,0 +1,85 @@
+-- What the tests that every call makes first say of its answer. Assumes nothing.
+use mathlib.Core.Path.{_≡_, refl, sym, ap, _∙_}
+use Prim.Native.Nat.{ℕ, _≤_, _<_}
+use mathlib.Core.Bool.{Bool, true, false, cond, not, _&&_, true≢false}
+use mathlib.Core.List.{List}
+use lib.ListN.{length}
+use borrow.Author.Tests.{lt-ltb, le-ltb}
+use Rattle.refusal.specs.declared.Refusal.{Refusal}
+use Rattle.refusal.specs.declared.Refusal.the-variants.{Slots, Damaged}
+use Rattle.entries.specs.declared.Entry.{Entry}
+use Rattle.ckms_store.specs.declared.Store.{Store}
+use Rattle.ckms_store.specs.declared.Checked.{Checked}
+use Rattle.ckms_store.specs.declared.Checked.the-variants as checking
+use Rattle.ckms_store.specs.Limits.{slotsOk}
+use Rattle.ckms_store.specs.Sound as sounding
+use Rattle.ckms_store.specs.Answers as answering
+use Rattle.ckms.specs.declared.CKMS.{CKMS}
+use Rattle.ckms.specs.State.{modulus, lastSound, cmaSound, samples, recordSound, sound}
+use Rattle.ckms.specs.Answers.{tested, checked}
+use Rattle.ckms.specs.Steps.{Ready}
+
+-- what a CKMS has beside its store, by the first part that is not sound
+module _ (c : CKMS) (t : ℕ) (is : t ≡ modulus (c .error)) where
+  pub counter-unsound : t ≤ c .inserts → recordSound c ≡ false
+  counter-unsound h = rw (← is, le-ltb (c .inserts) t h)
+
+  module _ (h : c .inserts < t) where
+    pub last-unsound : lastSound (c .n) (c .last_in) ≡ false → recordSound c ≡ false
+    last-unsound b = rw (← is, lt-ltb (c .inserts) t h, b)
+
+    pub last-sound : lastSound (c .n) (c .last_in) ≡ true → recordSound c ≡ cmaSound (c .n) (c .cma)
+    last-sound b = rw (← is, lt-ltb (c .inserts) t h, b)
+
+-- the answer of two tests, SLOTS and DAMAGED; and the same by the outcome of a check
+abbrev pub two : {A : Type 0} → (Refusal → A) → Bool → Bool → A → A
+two refused a b x = cond (not a) (refused Slots) (cond (not b) (refused Damaged) x)
+
+abbrev pub answerOf : {A : Type 0} → (Refusal → A) → A → Checked → A
+answerOf refused x checking.Sound = x
+answerOf refused x (checking.Refused why) = refused why
+
+by-check : {A : Type 0} (refused : Refusal → A) (x : A) (a b : Bool) → two refused a b x ≡ answerOf refused x (two checking.Refused a b checking.Sound)
+by-check refused x true true = refl
+by-check refused x true false = refl
+by-check refused x false b = refl
+
+by-two : (a b r : Bool) → two checking.Refused a (b && r) checking.Sound ≡ answerOf checking.Refused (cond r checking.Sound (checking.Refused Damaged)) (two checking.Refused a b checking.Sound)
+by-two true true true = refl
+by-two true true false = refl
+by-two true false r = refl
+by-two false b r = refl
+
+-- the store's tests, made once more behind those of a CKMS whose other parts are sound; and those of one whose other parts are not
+pub by-store : {A : Type 0} (refused : Refusal → A) (x : A) (a b r : Bool) → r ≡ true → two refused a (b && r) (two refused a b x) ≡ two refused a b x
+by-store refused x true true r e = rw e
+by-store refused x true false r e = refl
+by-store refused x false b r e = refl
+
+pub by-unsound : {A : Type 0} (refused : Refusal → A) (x : A) (a b r : Bool) → r ≡ false → two refused a (b && r) x ≡ answerOf refused (refused Damaged) (two checking.Refused a b checking.Sound)
+by-unsound refused x true true r e = rw e
+by-unsound refused x true false r e = refl
+by-unsound refused x false b r e = refl
+
+passed : (a b : Bool) → two checking.Refused a b checking.Sound ≡ checking.Sound → (a ≡ true) × (b ≡ true)
+passed true true e = (refl, refl)
+passed true false e = absurd (true≢false (sym (ap (answerOf (λ _. false) true) e)))
+passed false b e = absurd (true≢false (sym (ap (answerOf (λ _. false) true) e)))
+
+module _ (c : CKMS) (list : List Entry) (lens : List ℕ) where
+  -- a call answers by what its check found
+  pub answered-by : {A : Type 0} (refused : Refusal → A) (x : A) (k l : Checked) → k ≡ checked c list lens → k ≡ l → tested refused c list lens x ≡ answerOf refused x l
+  unfolding checked
+  answered-by refused x k l e f = by-check refused x (slotsOk (length list) (length lens)) (sound c list lens) ∙ ap (answerOf refused x) (sym e ∙ f)
+
+  -- a passed check is what a call's work asks
+  pub ready : (k : Checked) → k ≡ checked c list lens → k ≡ checking.Sound → Ready c list lens
+  unfolding checked
+  ready k e f = let p = passed (slotsOk (length list) (length lens)) (sound c list lens) (sym e ∙ f) in record { allowed = p .0; sound = p .1 }
+
+  -- the check itself: the store's, and then that of the rest
+  pub checked-by : (s : Store) (k l : Checked) (r : Bool) → s ≡ samples c → k ≡ answering.checked s list lens → k ≡ l → recordSound c ≡ r → checked c list lens ≡ answerOf checking.Refused (cond r checking.Sound (checking.Refused Damaged)) l
+  unfolding checked answering.checked
+  checked-by s k l r i e f h =
+      by-two (slotsOk (length list) (length lens)) (sounding.sound (samples c) list lens) (recordSound c)
+      ∙ rw (← i, ← e, f, h)

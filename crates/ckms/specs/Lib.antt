@@ -1,0 +1,7 @@
+pub mod Answers
+pub mod Posts
+pub mod Promises
+pub mod Readings
+pub mod Refusals
+pub mod State
+pub mod Steps

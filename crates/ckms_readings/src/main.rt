@@ -1,0 +1,289 @@
+// Document 01's reading 13 is run; behind it readings 10 and 12, COUNT on a state that no run reaches, and each refusal once.
+use ckms::Average;
+use ckms::CKMS;
+use ckms::Cma;
+use ckms::Counted;
+use ckms::ErrorBound;
+use ckms::Inserted;
+use ckms::Last;
+use ckms::LastIn;
+use ckms::Opened;
+use ckms_store::Answer;
+use fraction::Fraction;
+use fraction::wide;
+use mean::Mean;
+
+// Words, and no line's end.
+fn write(text: &[u8]) {
+    io::write_all(1, text);
+}
+
+// A line: words, and a number behind them.
+fn say(text: &[u8], n: u32) {
+    write(text);
+    io::print_decimal(1, wide(n));
+    write(b"\n");
+}
+
+fn say_opened(answer: Opened) {
+    match answer {
+        Opened::Open(_) => write(b"opened\n"),
+        Opened::Refused(why) => say(b"open refused ", why.number()),
+    }
+}
+
+fn say_inserted(answer: Inserted) {
+    match answer {
+        Inserted::Taken(c) => say(b"taken ", c.n),
+        Inserted::Refused(why) => say(b"insert refused ", why.number()),
+    }
+}
+
+fn say_count(answer: Counted) {
+    match answer {
+        Counted::Count(n) => say(b"count ", n),
+        Counted::Refused(why) => say(b"count refused ", why.number()),
+    }
+}
+
+fn say_last(answer: LastIn) {
+    if let LastIn::Refused(why) = answer {
+        say(b"last refused ", why.number());
+        return;
+    }
+    let LastIn::Given(last) = answer else {
+        return;
+    };
+    match last {
+        Last::Nothing => write(b"last none\n"),
+        Last::Value(v) => say(b"last ", v),
+    }
+}
+
+// The mean, which is compared with a whole number: none is printed digit by digit.
+fn say_cma(answer: Average, whole: u32) {
+    if let Average::Refused(why) = answer {
+        say(b"cma refused ", why.number());
+        return;
+    }
+    let Average::Given(cma) = answer else {
+        return;
+    };
+    let Cma::Value(m) = cma else {
+        write(b"cma none\n");
+        return;
+    };
+    if m.value == whole as f64 {
+        say(b"cma is ", whole);
+    } else {
+        say(b"cma is not ", whole);
+    }
+}
+
+fn say_error(answer: ErrorBound) {
+    if let ErrorBound::Refused(why) = answer {
+        say(b"error_bound refused ", why.number());
+        return;
+    }
+    let ErrorBound::Given(error) = answer else {
+        return;
+    };
+    write(b"error_bound ");
+    io::print_decimal(1, wide(error.num));
+    say(b"/", error.den);
+}
+
+fn say_answer(answer: Answer) {
+    if let Answer::Refused(why) = answer {
+        say(b"query refused ", why.number());
+        return;
+    }
+    let Answer::Given(at) = answer else {
+        return;
+    };
+    write(b"query gives rank ");
+    io::print_decimal(1, wide(at.rank));
+    say(b", value ", at.value);
+}
+
+// A line for each entry.
+fn say_rows(rows: &[[u32; 3]]) {
+    let mut i = 0;
+    while i < rows.len() {
+        let row = rows[i];
+        io::print_decimal(1, wide(row[0]));
+        write(b" ");
+        io::print_decimal(1, wide(row[1]));
+        say(b" ", row[2]);
+        i += 1;
+    }
+}
+
+// Inserts 1, 2, .. up to `end`, and stops at a refusal.
+fn fill(start: CKMS, rows: &mut [[u32; 3]], lens: &mut [u32], end: u32) -> CKMS {
+    let mut c = start;
+    let mut v = 0;
+    while v < end {
+        v += 1;
+        let answer = c.insert(rows, lens, v);
+        let Inserted::Taken(next) = answer else {
+            return c;
+        };
+        c = next;
+    }
+    c
+}
+
+// Reading 13: error 1/1000, 1 to 1000.
+fn reading_13() {
+    let mut rows = [[0u32; 3]; 4096];
+    let mut lens = [0u32; 4096];
+    let opened = CKMS::open(Fraction { num: 1, den: 1000 }, &mut rows, &mut lens);
+    let Opened::Open(fresh) = opened else {
+        return;
+    };
+    let c = fill(fresh, &mut rows, &mut lens, 1000);
+    say_answer(c.query(&rows, &lens, Fraction { num: 0, den: 1 }));
+    say_answer(c.query(
+        &rows,
+        &lens,
+        Fraction {
+            num: 998,
+            den: 1000,
+        },
+    ));
+    say_answer(c.query(
+        &rows,
+        &lens,
+        Fraction {
+            num: 999,
+            den: 1000,
+        },
+    ));
+    say_answer(c.query(&rows, &lens, Fraction { num: 1, den: 1 }));
+    say_count(c.count(&rows, &lens));
+    say_last(c.last(&rows, &lens));
+}
+
+// Reading 10: error 1/2, 1 2 3. The lent lists are not zero before opening, and a fresh CKMS has no last value and no mean.
+fn reading_10() {
+    let mut rows = [[7u32; 3]; 4];
+    let mut lens = [7u32; 4];
+    let opened = CKMS::open(Fraction { num: 1, den: 2 }, &mut rows, &mut lens);
+    let Opened::Open(fresh) = opened else {
+        return;
+    };
+    say_count(fresh.count(&rows, &lens));
+    say_last(fresh.last(&rows, &lens));
+    say_cma(fresh.cma(&rows, &lens), 0);
+    say_answer(fresh.query(&rows, &lens, Fraction { num: 1, den: 1 }));
+    let c = fill(fresh, &mut rows, &mut lens, 3);
+    say_rows(&rows);
+    say_answer(c.query(&rows, &lens, Fraction { num: 1, den: 1 }));
+    say_answer(c.query(&rows, &lens, Fraction { num: 2, den: 1 }));
+    say_cma(c.cma(&rows, &lens), 2);
+}
+
+// Reading 12: the running mean of 0, 100 is 50. The error is given back as opened.
+fn reading_12() {
+    let mut rows = [[0u32; 3]; 4];
+    let mut lens = [0u32; 4];
+    let opened = CKMS::open(Fraction { num: 2, den: 20 }, &mut rows, &mut lens);
+    let Opened::Open(fresh) = opened else {
+        return;
+    };
+    let first = fresh.insert(&mut rows, &mut lens, 0);
+    let Inserted::Taken(one) = first else {
+        return;
+    };
+    let second = one.insert(&mut rows, &mut lens, 100);
+    let Inserted::Taken(two) = second else {
+        return;
+    };
+    say_cma(two.cma(&rows, &lens), 50);
+    say_cma(two.cma(&rows, &lens), 51);
+    say_error(two.error_bound(&rows, &lens));
+}
+
+// One entry that stands for all but one of the observations: one insert more is taken, and the next is refused.
+fn count() {
+    let mut rows = [[0u32; 3]; 3];
+    let mut lens = [0u32; 3];
+    rows[0] = [5, 999999999, 0];
+    lens[0] = 1;
+    let c = CKMS {
+        error: Fraction { num: 1, den: 2 },
+        n: 999999999,
+        held: 1,
+        blocks: 1,
+        inserts: 0,
+        last_in: Last::Value(5),
+        cma: Cma::Value(Mean { value: 5.0 }),
+    };
+    let answer = c.insert(&mut rows, &mut lens, 5);
+    say_inserted(answer);
+    let Inserted::Taken(full) = answer else {
+        return;
+    };
+    say_inserted(full.insert(&mut rows, &mut lens, 9));
+    say_rows(&rows);
+    say_cma(full.cma(&rows, &lens), 5);
+}
+
+// A state with these three words, over one entry that stands for one observation.
+fn state(inserts: u32, last_in: Last, cma: Cma) -> CKMS {
+    CKMS {
+        error: Fraction { num: 1, den: 2 },
+        n: 1,
+        held: 1,
+        blocks: 1,
+        inserts,
+        last_in,
+        cma,
+    }
+}
+
+// SLOTS, EPSILON, and no refusal.
+fn opening() {
+    let mut rows = [[0u32; 3]; 1];
+    let mut lens = [0u32; 1];
+    let mut longer = [0u32; 2];
+    let half = Fraction { num: 1, den: 2 };
+    say_opened(CKMS::open(half, &mut rows, &mut longer));
+    say_opened(CKMS::open(Fraction { num: 1, den: 1 }, &mut rows, &mut lens));
+    say_opened(CKMS::open(half, &mut rows, &mut lens));
+}
+
+// FULL.
+fn full() {
+    let mut rows = [[5u32, 1, 0]; 1];
+    let mut lens = [1u32; 1];
+    let c = state(0, Last::Value(5), Cma::Value(Mean { value: 5.0 }));
+    say_inserted(c.insert(&mut rows, &mut lens, 6));
+}
+
+// DAMAGED: the counter at its modulus, no last value, no mean, an infinite mean; SLOTS before it; and no refusal.
+fn damaged() {
+    let rows = [[5u32, 1, 0]; 1];
+    let lens = [1u32; 1];
+    let longer = [1u32; 2];
+    let half = Fraction { num: 1, den: 2 };
+    let five = Cma::Value(Mean { value: 5.0 });
+    let infinite = Cma::Value(Mean { value: 1.0 / 0.0 });
+    say_count(state(1, Last::Value(5), five).count(&rows, &lens));
+    say_last(state(0, Last::Nothing, five).last(&rows, &lens));
+    say_cma(state(0, Last::Value(5), Cma::Nothing).cma(&rows, &lens), 5);
+    say_answer(state(0, Last::Value(5), infinite).query(&rows, &lens, half));
+    say_answer(state(0, Last::Value(5), infinite).query(&rows, &longer, half));
+    say_answer(state(0, Last::Value(5), five).query(&rows, &lens, half));
+}
+
+fn main() {
+    reading_13();
+    reading_10();
+    reading_12();
+    count();
+    opening();
+    full();
+    damaged();
+}

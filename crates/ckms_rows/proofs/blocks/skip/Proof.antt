@@ -1,0 +1,175 @@
+-- `ckms_rows::blocks::skip` meets its contract: the blocks before `block` were skipped.
+-- Assumes nothing.
+use mathlib.Core.Path.{_≡_, sym}
+use Prim.Native.Nat.{_+_, _-_}
+use native.Mathlib.Omega.{arith}
+use borrow.Author.Needs.{needs}
+use lib.ListN.{length, getD, take, drop, length-take, length-map}
+use Rattle.entries.specs.Entry.{entryOf, entriesOf, sumG}
+use Rattle.ckms_rows.proofs.Skips.{Searching, search-none, search-here, search-last, search-on}
+use Rattle.ckms_rows.proofs.blocks.skip.Statement.{statement}
+use Rattle.ckms_rows.proofs.blocks.skip.Tie as tie
+
+abbrev Inv-loop : tie.InvT-loop
+Inv-loop rows lens x block₀ start₀ sum₀ block start sum = Searching x rows lens block start sum
+
+abbrev μ-loop : tie.MeasureT-loop
+μ-loop rows lens x block₀ start₀ sum₀ block start sum = length lens - block
+
+loop-holds : tie.Need-loop-holds Inv-loop μ-loop
+loop-holds c = let a = c .before .args in search-none (a .x) (a .rows .now) (a .lens .now) (c .before .pre .0) (c .before .pre .1)
+
+add-loop : tie.Need-add-loop Inv-loop μ-loop
+add-loop c = search needs
+
+mul-place : tie.Need-mul-place Inv-loop μ-loop
+mul-place c = search needs
+
+shared-slice-read-place : tie.Need-shared-slice-read-place Inv-loop μ-loop
+shared-slice-read-place c = search needs
+
+place-requires : tie.Need-place-requires Inv-loop μ-loop
+place-requires c κs = search needs
+
+add-end : tie.Need-add-end Inv-loop μ-loop
+add-end c = search needs
+
+sub-if1 : tie.Need-sub-if1 Inv-loop μ-loop
+sub-if1 c = search needs
+
+mul-if1 : tie.Need-mul-if1 Inv-loop μ-loop
+mul-if1 c = search needs
+
+index-1-if1 : tie.Need-index-1-if1 Inv-loop μ-loop
+index-1-if1 c = search needs
+
+index-2-if1 : tie.Need-index-2-if1 Inv-loop μ-loop
+index-2-if1 c = search needs
+
+returns : tie.Need-returns Inv-loop μ-loop
+returns c =
+    let p = c .before .before in
+    let l = p .before .before .before in
+    let s = l .before .before in
+    let a = s .args in
+    search-here (a .x) (a .rows .now) (a .lens .now) (s .pre .0) (l .loop .block) (l .loop .start) (l .loop .sum) (l .loop .inv) (omega arith) (rw (← p .place .ensures .0) (c .if1 .taken))
+
+add-place : tie.Need-add-place Inv-loop μ-loop
+add-place c = search needs
+
+mul-place-2 : tie.Need-mul-place-2 Inv-loop μ-loop
+mul-place-2 c = search needs
+
+shared-slice-read-place-2 : tie.Need-shared-slice-read-place-2 Inv-loop μ-loop
+shared-slice-read-place-2 c = search needs
+
+place-requires-2 : tie.Need-place-requires-2 Inv-loop μ-loop
+place-requires-2 c κs = search needs
+
+add-next : tie.Need-add-next Inv-loop μ-loop
+add-next c = search needs
+
+mul-sum-g : tie.Need-mul-sum-g Inv-loop μ-loop
+mul-sum-g c = search needs
+
+sub-sum-g : tie.Need-sub-sum-g Inv-loop μ-loop
+sub-sum-g c = search needs
+
+part-sum-g-start : tie.Need-part-sum-g-start Inv-loop μ-loop
+part-sum-g-start c = search needs
+
+part-sum-g-end : tie.Need-part-sum-g-end Inv-loop μ-loop
+part-sum-g-end c =
+    let i = c .before .before in
+    let p = i .before .before in
+    let l = p .before .before .before in
+    let s = l .before .before in
+    let a = s .args in
+    let on = search-on (a .x) (a .rows .now) (a .lens .now) (s .pre .0) (l .loop .block) (l .loop .start) (l .loop .sum) (l .loop .inv) (omega arith) (rw (← p .place .ensures .0) (i .if1 .left)) in
+    let e : getD (a .lens .now) (l .loop .block + 1) 0 ≡ c .place2 .result = sym (c .place2 .ensures .0) in
+    let f = on .fits in
+    search needs
+
+sum-g-requires : tie.Need-sum-g-requires Inv-loop μ-loop
+sum-g-requires c κs =
+    let i = c .before .before .before in
+    let p = i .before .before in
+    let l = p .before .before .before in
+    let s = l .before .before in
+    let a = s .args in
+    let on = search-on (a .x) (a .rows .now) (a .lens .now) (s .pre .0) (l .loop .block) (l .loop .start) (l .loop .sum) (l .loop .inv) (omega arith) (rw (← p .place .ensures .0) (i .if1 .left)) in
+    omega (arith, length-take (l .loop .start + p .place .result + c .before .place2 .result - (l .loop .start + p .place .result)) (drop (l .loop .start + p .place .result) (a .rows .now)), on .fits, c .before .place2 .ensures .0, s .pre .0 .few, length-map (a .rows .now) entryOf)
+
+add-sum : tie.Need-add-sum Inv-loop μ-loop
+add-sum c =
+    let q = c .before .before in
+    let i = q .before .before in
+    let p = i .before .before in
+    let l = p .before .before .before in
+    let s = l .before .before in
+    let a = s .args in
+    let on = search-on (a .x) (a .rows .now) (a .lens .now) (s .pre .0) (l .loop .block) (l .loop .start) (l .loop .sum) (l .loop .inv) (omega arith) (rw (← p .place .ensures .0) (i .if1 .left)) in
+    let n : l .loop .start + p .place .result + q .place2 .result - (l .loop .start + p .place .result) ≡ q .place2 .result = omega arith in
+    let g : c .sum-g .result ≡ sumG (entriesOf (take (getD (a .lens .now) (l .loop .block + 1) 0) (drop (l .loop .start + getD (a .lens .now) (l .loop .block) 0) (a .rows .now)))) =
+    rw (n, q .place2 .ensures .0, p .place .ensures .0) at (c .sum-g .ensures) in
+    omega (arith, on .low)
+
+add-block : tie.Need-add-block Inv-loop μ-loop
+add-block c = search needs
+
+loop-less : tie.Need-loop-less Inv-loop μ-loop
+loop-less c = search needs
+
+loop-again : tie.Need-loop-again Inv-loop μ-loop
+loop-again c =
+    let q = c .before .before in
+    let i = q .before .before in
+    let p = i .before .before in
+    let l = p .before .before .before in
+    let s = l .before .before in
+    let a = s .args in
+    let on = search-on (a .x) (a .rows .now) (a .lens .now) (s .pre .0) (l .loop .block) (l .loop .start) (l .loop .sum) (l .loop .inv) (omega arith) (rw (← p .place .ensures .0) (i .if1 .left)) in
+    let n : l .loop .start + p .place .result + q .place2 .result - (l .loop .start + p .place .result) ≡ q .place2 .result = omega arith in
+    let g : c .sum-g .result ≡ sumG (entriesOf (take (getD (a .lens .now) (l .loop .block + 1) 0) (drop (l .loop .start + getD (a .lens .now) (l .loop .block) 0) (a .rows .now)))) =
+    rw (n, q .place2 .ensures .0, p .place .ensures .0) at (c .sum-g .ensures) in
+    rw (g, p .place .ensures .0) on
+
+returns-2 : tie.Need-returns-2 Inv-loop μ-loop
+returns-2 c =
+    let l = c .before in
+    let s = l .before .before in
+    let a = s .args in
+    search-last (a .x) (a .rows .now) (a .lens .now) (s .pre .0) (l .loop .block) (l .loop .start) (l .loop .sum) (l .loop .inv) (omega arith)
+
+pub skip-spec : {M : Type 1} → statement M
+skip-spec =
+    tie.close
+    (tie.spec
+    Inv-loop
+    μ-loop
+    loop-holds
+    add-loop
+    mul-place
+    shared-slice-read-place
+    place-requires
+    add-end
+    sub-if1
+    mul-if1
+    index-1-if1
+    index-2-if1
+    returns
+    add-place
+    mul-place-2
+    shared-slice-read-place-2
+    place-requires-2
+    add-next
+    mul-sum-g
+    sub-sum-g
+    part-sum-g-start
+    part-sum-g-end
+    sum-g-requires
+    add-sum
+    add-block
+    loop-less
+    loop-again
+    returns-2)

@@ -1,0 +1,12 @@
+-- The readings, by computation. Assumes nothing.
+use mathlib.Core.Path.{refl}
+use Rattle.ckms_rows.specs.Blocks.{blockOf, rankOf, grown}
+use Rattle.ckms_rows.specs.Join.{join, joined}
+use Rattle.ckms_rows.specs.Squash.{squash, stays, squashed, marks, kept}
+use Rattle.ckms_rows.specs.Walk.{walk, lookUp}
+use Rattle.ckms_store.specs.Held.{newDelta, put, tidy}
+use Rattle.ckms_store.specs.Readings.{putAll, putTidy, StoreReadings}
+
+pub computed : StoreReadings
+unfolding blockOf rankOf grown join joined squash stays squashed marks kept walk lookUp newDelta put tidy putAll putTidy
+computed = record { reading-9 = refl; splits = refl; merges = refl; last-rank = refl; joins = refl; joins-again = refl }

@@ -1,0 +1,14 @@
+pub mod Accepted
+pub mod Asks
+pub mod Calls
+pub mod Computed
+pub mod Ends
+pub mod Exactly
+pub mod Kept
+pub mod Layouts
+pub mod Outcomes
+pub mod Puts
+pub mod Sounds
+pub mod Tests
+pub mod Tidies
+pub mod Works

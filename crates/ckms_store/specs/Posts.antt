@@ -1,0 +1,36 @@
+-- What holds after each call: its answer and both lent lists as functions of the input; and an accepted call leaves a sound state.
+-- Assumes nothing: these are definitions.
+use mathlib.Core.Path.{_≡_}
+use mathlib.Core.Bool.{true}
+use Prim.Native.Nat.{ℕ}
+use mathlib.Core.List.{List}
+use Rattle.fraction.specs.declared.Fraction.{Fraction}
+use Rattle.entries.specs.declared.Entry.{Entry}
+use Rattle.entries.specs.Entry.{zeroEntry}
+use Rattle.ckms_store.specs.declared.Store.{Store}
+use Rattle.ckms_store.specs.declared.Opened.{Opened}
+use Rattle.ckms_store.specs.declared.Opened.the-variants.{Open}
+use Rattle.ckms_store.specs.declared.Inserted.{Inserted}
+use Rattle.ckms_store.specs.declared.Inserted.the-variants.{Taken}
+use Rattle.ckms_store.specs.declared.Compressed.{Compressed}
+use Rattle.ckms_store.specs.declared.Compressed.the-variants.{Done}
+use Rattle.ckms_store.specs.Answers.{opened, zeroedBy, inserted, insertedList, insertedLens, compressed, compressedList, compressedLens}
+use Rattle.ckms_store.specs.Sound.{sound}
+
+pub record OpenPost (error : Fraction) (block : ℕ) (list : List Entry) (lens : List ℕ) (answer : Opened) (list′ : List Entry) (lens′ : List ℕ) : Type 0 where
+  pub answered : answer ≡ opened error block list lens
+  pub entries : list′ ≡ zeroedBy (opened error block list lens) zeroEntry list
+  pub blocks : lens′ ≡ zeroedBy (opened error block list lens) 0 lens
+  pub fresh : (s : Store) → answer ≡ Open s → sound s list′ lens′ ≡ true
+
+pub record InsertPost (s : Store) (list : List Entry) (lens : List ℕ) (x : ℕ) (answer : Inserted) (list′ : List Entry) (lens′ : List ℕ) : Type 0 where
+  pub answered : answer ≡ inserted s list lens x
+  pub entries : list′ ≡ insertedList s list lens x
+  pub blocks : lens′ ≡ insertedLens s list lens x
+  pub kept : (next : Store) → answer ≡ Taken next → sound next list′ lens′ ≡ true
+
+pub record CompressPost (s : Store) (list : List Entry) (lens : List ℕ) (answer : Compressed) (list′ : List Entry) (lens′ : List ℕ) : Type 0 where
+  pub answered : answer ≡ compressed s list lens
+  pub entries : list′ ≡ compressedList s list lens
+  pub blocks : lens′ ≡ compressedLens s list lens
+  pub kept : (next : Store) → answer ≡ Done next → sound next list′ lens′ ≡ true
