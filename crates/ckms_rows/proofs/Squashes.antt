@@ -13,7 +13,8 @@ use Rattle.fraction.specs.declared.Fraction.{Fraction}
 use Rattle.entries.specs.declared.Entry.{Entry}
 use Rattle.entries.specs.Entry.{zeroEntry}
 use Rattle.ckms_rows.specs.Blocks.{total}
-use Rattle.ckms_rows.specs.Squash.{stepRank, merges, merged, squash, stays, squashed, marks, kept, outcome, coming, Turned, Passed, Finished, Squashed}
+use Rattle.ckms_rows.specs.Pass.{outcome, coming, Turned, Passed, Finished, Squashed}
+use Rattle.ckms_rows.specs.Squash.{stepRank, merges, merged, squash, stays, squashed, marks, kept}
 
 -- the first mark of what is still to come: it is counted, and the others are still to come
 next-mark : (n x : ℕ) (ms t : List ℕ) → drop n ms ≡ x ∷ t → (t ≡ drop (suc n) ms) × (total (take (suc n) ms) ≡ total (take n ms) + x)

@@ -13,7 +13,8 @@ use Rattle.fraction.specs.Inv.{inv}
 use Rattle.entries.specs.declared.Entry.{Entry}
 use Rattle.entries.specs.Entry.{rowOf, entryOf, entriesOf}
 use Rattle.entries.proofs.Maps.{map-set, entry-at}
-use Rattle.ckms_rows.specs.Squash.{stepRank, merges, merged, Turned}
+use Rattle.ckms_rows.specs.Pass.{Turned}
+use Rattle.ckms_rows.specs.Squash.{stepRank, merges, merged}
 use Rattle.fraction.proofs.Laws.{inv-le}
 
 -- what merges is small: the g of both together fit a word

@@ -8,7 +8,8 @@ ghost use lib.ListN.{length, drop, getD};
 ghost use Rattle.fraction.specs.Allowed.{isError};
 ghost use Rattle.entries.specs.Entry.{rowOf, entryOf, entriesOf};
 ghost use Rattle.ckms_rows.specs.Blocks.{total};
-ghost use Rattle.ckms_rows.specs.Squash.{stepRank, merges, merged, Turned, Passed, Whole, Finished, Squashed};
+ghost use Rattle.ckms_rows.specs.Pass.{Turned, Passed, Whole, Finished, Squashed};
+ghost use Rattle.ckms_rows.specs.Squash.{stepRank, merges, merged};
 
 // r of the step that looks at place i, as the Rust counts it.
 pub fn step_rank(i: usize) -> u32

@@ -9,7 +9,7 @@ use Rattle.fraction.specs.declared.Fraction.{Fraction}
 use Rattle.entries.specs.Entry.{zeroEntry, entryOf, rowOf, entriesOf}
 use Rattle.entries.specs.Lists.{layout, cleared}
 use Rattle.entries.proofs.Maps.{map-take, map-drop, map-cleared}
-use Rattle.ckms_rows.specs.Squash.{Squashed}
+use Rattle.ckms_rows.specs.Pass.{Squashed}
 use Rattle.ckms_rows.specs.Join.{Joined}
 use Rattle.ckms_store.specs.Steps.{SquashPost, JoinPost}
 

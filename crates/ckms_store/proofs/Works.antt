@@ -16,7 +16,8 @@ use Rattle.entries.proofs.Maps.{map-take, map-drop, map-putAt}
 use Rattle.ckms_rows.specs.declared.blocks.Spot.{Spot}
 use Rattle.ckms_rows.specs.Blocks.{total, blockOf, grown}
 use Rattle.ckms_rows.specs.Seek.{NoneEmpty, InBlocks, Sought, Grown}
-use Rattle.ckms_rows.specs.Squash.{Whole, squashed, marks, kept}
+use Rattle.ckms_rows.specs.Pass.{Whole}
+use Rattle.ckms_rows.specs.Squash.{squashed, marks, kept}
 use Rattle.ckms_rows.specs.Join.{joined}
 use Rattle.ckms_rows.proofs.Grows.{length-put}
 use Rattle.ckms_rows.proofs.Skips.{below-le}

@@ -18,7 +18,7 @@ ghost use lib.ListN.{length, take};
 ghost use Rattle.fraction.specs.Allowed.{isError};
 ghost use Rattle.entries.specs.Entry.{entriesOf};
 ghost use Rattle.ckms_rows.specs.Seek.{InBlocks, Sought};
-ghost use Rattle.ckms_rows.specs.Squash.{Whole};
+ghost use Rattle.ckms_rows.specs.Pass.{Whole};
 ghost use Rattle.ckms_rows.specs.Walk.{lookUp};
 ghost use Rattle.ckms_store.specs.Answers.{checked, scaleOf, limitOf};
 ghost use Rattle.ckms_store.specs.Held.{deltaAt};

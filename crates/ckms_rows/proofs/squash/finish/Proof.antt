@@ -7,7 +7,8 @@ use native.Mathlib.Omega.{arith}
 use borrow.Author.Needs.{needs}
 use lib.ListN.{length, getD, take, drop, length-set, length-map}
 use Rattle.entries.specs.Entry.{entryOf, entriesOf}
-use Rattle.ckms_rows.specs.Squash.{outcome, coming, kept}
+use Rattle.ckms_rows.specs.Pass.{outcome, coming}
+use Rattle.ckms_rows.specs.Squash.{kept}
 use Rattle.ckms_rows.proofs.Squashes.{Between, between-fits, between-more, between-done}
 use Rattle.ckms_rows.proofs.squash.finish.Statement.{statement}
 use Rattle.ckms_rows.proofs.squash.finish.Tie as tie

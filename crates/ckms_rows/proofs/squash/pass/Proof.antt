@@ -6,7 +6,7 @@ use native.Mathlib.Omega.{arith}
 use borrow.Author.Needs.{needs}
 use lib.ListN.{length, length-map}
 use Rattle.entries.specs.Entry.{entryOf, entriesOf}
-use Rattle.ckms_rows.specs.Squash.{Passed}
+use Rattle.ckms_rows.specs.Pass.{Passed}
 use Rattle.ckms_rows.proofs.Squashes.{pass-none, pass-more}
 use Rattle.ckms_rows.proofs.squash.pass.Statement.{statement}
 use Rattle.ckms_rows.proofs.squash.pass.Tie as tie
