@@ -1,0 +1,35 @@
+-- `quantiles_c::histograms::stelo_histogram_insert` meets its contract: what the core ensures, carried over.
+-- Assumes nothing.
+use mathlib.Core.Path.{subst}
+use borrow.Author.Needs.{needs}
+use Rattle.histogram.specs.Contracts.{InsertPost}
+use Rattle.histogram.specs.declared.Histogram.{Histogram}
+use Rattle.quantiles_c.proofs.histograms.stelo_histogram_insert.Statement.{statement}
+use Rattle.quantiles_c.proofs.histograms.stelo_histogram_insert.Tie as tie
+
+histogram-requires : tie.Need-histogram-requires
+histogram-requires c κs = search needs
+
+insert-requires : tie.Need-insert-requires
+insert-requires c κs = search needs
+
+inserted-requires : tie.Need-inserted-requires
+inserted-requires c κs = search needs
+
+same-length : tie.Need-same-length
+same-length c = search needs
+
+returns : tie.Need-returns
+returns c =
+    let a = c .before .before .before .before .before .before .before .before .args in
+    let counts = c .before .before .before .insert .last .1 .1 .0 in
+    let core = c .before .before .before .insert .result in
+    record {
+      core = core;
+      post = subst (λ (h : Histogram). InsertPost h (a .bounds .now) (a .counts .now) (a .v) core counts) (c .before .before .before .before .before .histogram .ensures) (c .before .before .before .insert .ensures);
+      flat = c .inserted .ensures;
+    }
+
+pub stelo-histogram-insert-spec : {M : Type 1} → statement M
+stelo-histogram-insert-spec =
+    tie.close (tie.spec histogram-requires insert-requires inserted-requires same-length returns)

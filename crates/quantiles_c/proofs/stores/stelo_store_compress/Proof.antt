@@ -1,0 +1,47 @@
+-- `quantiles_c::stores::stelo_store_compress` meets its contract: what the core ensures, carried over.
+-- Assumes nothing.
+use mathlib.Core.Path.{subst}
+use borrow.Author.Needs.{needs}
+use Rattle.entries.specs.Entry.{entriesOf}
+use Rattle.ckms_store.specs.Posts.{CompressPost}
+use Rattle.ckms_store.specs.declared.Store.{Store}
+use Rattle.quantiles_c.proofs.stores.stelo_store_compress.Statement.{statement}
+use Rattle.quantiles_c.proofs.stores.stelo_store_compress.Tie as tie
+
+store-requires : tie.Need-store-requires
+store-requires c κs = search needs
+
+compress-requires : tie.Need-compress-requires
+compress-requires c κs = search needs
+
+compressed-requires : tie.Need-compressed-requires
+compressed-requires c κs = search needs
+
+same-length : tie.Need-same-length
+same-length c = search needs
+
+same-length-2 : tie.Need-same-length-2
+same-length-2 c = search needs
+
+returns : tie.Need-returns
+returns c =
+    let a = c .before .before .before .before .before .before .before .before .before .args in
+    let list = entriesOf (c .before .before .before .before .compress .last .1 .0) in
+    let blocks = c .before .before .before .before .compress .last .1 .1 .0 in
+    let core = c .before .before .before .before .compress .result in
+    record {
+      core = core;
+      post = subst (λ (s : Store). CompressPost s (entriesOf (a .list .now)) (a .blocks .now) core list blocks) (c .before .before .before .before .before .before .before .store .ensures) (c .before .before .before .before .compress .ensures);
+      flat = c .compressed .ensures;
+    }
+
+pub stelo-store-compress-spec : {M : Type 1} → statement M
+stelo-store-compress-spec =
+    tie.close
+    (tie.spec
+    store-requires
+    compress-requires
+    compressed-requires
+    same-length
+    same-length-2
+    returns)

@@ -1,0 +1,36 @@
+-- `quantiles_c::streams::stelo_stream_insert` meets its contract: what the core ensures, carried over.
+-- Assumes nothing.
+use mathlib.Core.Path.{subst}
+use borrow.Author.Needs.{needs}
+use Rattle.entries.specs.Entry.{entriesOf}
+use Rattle.greenwald_khanna.specs.Posts.{InsertPost}
+use Rattle.greenwald_khanna.specs.declared.Stream.{Stream}
+use Rattle.quantiles_c.proofs.streams.stelo_stream_insert.Statement.{statement}
+use Rattle.quantiles_c.proofs.streams.stelo_stream_insert.Tie as tie
+
+stream-requires : tie.Need-stream-requires
+stream-requires c κs = search needs
+
+insert-requires : tie.Need-insert-requires
+insert-requires c κs = search needs
+
+inserted-requires : tie.Need-inserted-requires
+inserted-requires c κs = search needs
+
+same-length : tie.Need-same-length
+same-length c = search needs
+
+returns : tie.Need-returns
+returns c =
+    let a = c .before .before .before .before .before .args in
+    let list = entriesOf (c .before .before .insert .last .1 .0) in
+    let core = c .before .before .insert .result in
+    record {
+      core = core;
+      post = subst (λ (s : Stream). InsertPost s (entriesOf (a .list .now)) (a .v) core list) (c .before .before .before .before .stream .ensures) (c .before .before .insert .ensures);
+      flat = c .inserted .ensures;
+    }
+
+pub stelo-stream-insert-spec : {M : Type 1} → statement M
+stelo-stream-insert-spec =
+    tie.close (tie.spec stream-requires insert-requires inserted-requires same-length returns)

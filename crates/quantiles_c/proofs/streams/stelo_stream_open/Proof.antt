@@ -1,0 +1,36 @@
+-- `quantiles_c::streams::stelo_stream_open` meets its contract: what the core ensures, carried over.
+-- Assumes nothing.
+use mathlib.Core.Path.{subst}
+use borrow.Author.Needs.{needs}
+use Rattle.fraction.specs.declared.Fraction.{Fraction}
+use Rattle.entries.specs.Entry.{entriesOf}
+use Rattle.greenwald_khanna.specs.Posts.{OpenPost}
+use Rattle.quantiles_c.proofs.streams.stelo_stream_open.Statement.{statement}
+use Rattle.quantiles_c.proofs.streams.stelo_stream_open.Tie as tie
+
+fraction-requires : tie.Need-fraction-requires
+fraction-requires c κs = search needs
+
+open-requires : tie.Need-open-requires
+open-requires c κs = search needs
+
+opened-requires : tie.Need-opened-requires
+opened-requires c κs = search needs
+
+same-length : tie.Need-same-length
+same-length c = search needs
+
+returns : tie.Need-returns
+returns c =
+    let a = c .before .before .before .before .before .args in
+    let list = entriesOf (c .before .before .«open» .last .1 .0) in
+    let core = c .before .before .«open» .result in
+    record {
+      core = core;
+      post = subst (λ (f : Fraction). OpenPost f (entriesOf (a .list .now)) core list) (c .before .before .before .before .fraction .ensures) (c .before .before .«open» .ensures);
+      flat = c .opened .ensures;
+    }
+
+pub stelo-stream-open-spec : {M : Type 1} → statement M
+stelo-stream-open-spec =
+    tie.close (tie.spec fraction-requires open-requires opened-requires same-length returns)
