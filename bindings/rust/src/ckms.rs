@@ -1,5 +1,5 @@
 //! CKMS: a store of entries in blocks, and the summary over it that keeps the last value and the running mean. Entries and block lengths are lent.
-use crate::{ffi, Entry, Fraction, Refusal};
+use crate::{ffi, words, Entry, Fraction, Refusal};
 
 /// A store's own words. The entries and the lengths of their blocks stand in two lent lists of the same length.
 ///
@@ -19,7 +19,7 @@ use crate::{ffi, Entry, Fraction, Refusal};
 /// ```
 #[derive(Clone, Copy, PartialEq, Eq, Debug)]
 pub struct Store {
-    words: ffi::Store,
+    words: words::Store,
 }
 
 impl Store {
@@ -83,14 +83,14 @@ impl Store {
 
     /// The state, to be stored: the error's numerator and denominator, the observations accepted, the entries held, the block size, the blocks.
     pub fn words(&self) -> [u32; 6] {
-        let ffi::Store { num, den, n, held, block, blocks } = self.words;
+        let words::Store { num, den, n, held, block, blocks } = self.words;
         [num, den, n, held, block, blocks]
     }
 
     /// The state of stored [`words`](Store::words). Any words are taken: those that are not sound with the lists are refused by every call.
     pub fn from_words(w: [u32; 6]) -> Store {
         let [num, den, n, held, block, blocks] = w;
-        Store { words: ffi::Store { num, den, n, held, block, blocks } }
+        Store { words: words::Store { num, den, n, held, block, blocks } }
     }
 }
 
@@ -194,13 +194,13 @@ impl CKMS {
         CKMS { words: w }
     }
 
-    fn state(&self) -> ffi::Ckms {
+    fn state(&self) -> words::Ckms {
         let [num, den, n, held, blocks, inserts, has_last, last, has_mean, mean] = self.words;
-        ffi::Ckms { num, den, n, held, blocks, inserts, has_last, last, has_mean, mean: f64::from_bits(mean) }
+        words::Ckms { num, den, n, held, blocks, inserts, has_last, last, has_mean, mean: f64::from_bits(mean) }
     }
 
-    fn from_state(state: ffi::Ckms) -> CKMS {
-        let ffi::Ckms { num, den, n, held, blocks, inserts, has_last, last, has_mean, mean } = state;
+    fn from_state(state: words::Ckms) -> CKMS {
+        let words::Ckms { num, den, n, held, blocks, inserts, has_last, last, has_mean, mean } = state;
         CKMS { words: [num, den, n, held, blocks, inserts, has_last, last, has_mean, mean.to_bits()] }
     }
 }

@@ -3,140 +3,13 @@
 //! The archive's functions have no precondition of their own: they are proved, for every state and every number, to end, to read and write only
 //! within the slices that they are lent, and they keep no pointer. What a caller in another language still owes is what C's types cannot say:
 //! that a pointer and its count are those of one live slice, and that nobody else holds a slice which is written. A `&[T]` is the first, a
-//! `&mut [T]` both. The structs have the fields of `bindings/c/stelomavunt.h` in its order, and are `#[repr(C)]`, as [`Entry`] and [`Fraction`] are.
+//! `&mut [T]` both. The structs are those of [`words`](crate::words), `#[repr(C)]` as [`Entry`] and [`Fraction`] are.
 use crate::histogram::Bound;
+use crate::words::{
+    given, BoundWords, Ckms, CkmsAnswer, ErrorBound, Histogram, HistogramAnswer, Last, Mean, Number, Part, Ranked, Store, StoreAnswer, Stream,
+    StreamAnswer, Sum,
+};
 use crate::{Entry, Fraction, Refusal};
-
-#[repr(C)]
-#[derive(Clone, Copy, PartialEq, Eq, Debug)]
-pub struct Stream {
-    pub num: u32,
-    pub den: u32,
-    pub n: u32,
-    pub held: u32,
-}
-
-#[repr(C)]
-#[derive(Clone, Copy, PartialEq, Eq, Debug)]
-pub struct Histogram {
-    pub count: u64,
-    pub has_sum: u64,
-    pub sum: u64,
-}
-
-#[repr(C)]
-#[derive(Clone, Copy, PartialEq, Eq, Debug)]
-pub struct Store {
-    pub num: u32,
-    pub den: u32,
-    pub n: u32,
-    pub held: u32,
-    pub block: u32,
-    pub blocks: u32,
-}
-
-/// The mean is a float here; whoever keeps the words keeps its bits.
-#[repr(C)]
-#[derive(Clone, Copy)]
-pub struct Ckms {
-    pub num: u64,
-    pub den: u64,
-    pub n: u64,
-    pub held: u64,
-    pub blocks: u64,
-    pub inserts: u64,
-    pub has_last: u64,
-    pub last: u64,
-    pub has_mean: u64,
-    pub mean: f64,
-}
-
-/// A bound that is asked for; `infinite` other than 0 is +Inf, whatever `value` says.
-#[repr(C)]
-struct BoundWords {
-    infinite: u32,
-    value: u32,
-}
-
-impl From<Bound> for BoundWords {
-    fn from(bound: Bound) -> BoundWords {
-        match bound {
-            Bound::Finite(value) => BoundWords { infinite: 0, value },
-            Bound::PosInf => BoundWords { infinite: 1, value: 0 },
-        }
-    }
-}
-
-#[repr(C)]
-struct StreamAnswer {
-    refusal: u32,
-    stream: Stream,
-}
-
-#[repr(C)]
-struct HistogramAnswer {
-    refusal: u32,
-    histogram: Histogram,
-}
-
-#[repr(C)]
-struct StoreAnswer {
-    refusal: u32,
-    store: Store,
-}
-
-#[repr(C)]
-struct CkmsAnswer {
-    refusal: u32,
-    ckms: Ckms,
-}
-
-#[repr(C)]
-struct Number {
-    refusal: u32,
-    value: u32,
-}
-
-#[repr(C)]
-struct Sum {
-    refusal: u32,
-    has_sum: u32,
-    sum: u64,
-}
-
-#[repr(C)]
-struct Part {
-    refusal: u32,
-    start: usize,
-    length: usize,
-}
-
-#[repr(C)]
-struct Ranked {
-    refusal: u32,
-    rank: u32,
-    value: u32,
-}
-
-#[repr(C)]
-struct Last {
-    refusal: u32,
-    has_last: u32,
-    last: u32,
-}
-
-#[repr(C)]
-struct Mean {
-    refusal: u32,
-    has_mean: u32,
-    mean: f64,
-}
-
-#[repr(C)]
-struct ErrorBound {
-    refusal: u32,
-    error: Fraction,
-}
 
 unsafe extern "C" {
     fn stelo_stream_open(epsilon: Fraction, list: *mut Entry, slots: usize) -> StreamAnswer;
@@ -199,26 +72,6 @@ unsafe extern "C" {
     fn stelo_ckms_last(ckms: Ckms, list: *const Entry, slots: usize, blocks: *const u32, places: usize) -> Last;
     fn stelo_ckms_cma(ckms: Ckms, list: *const Entry, slots: usize, blocks: *const u32, places: usize) -> Mean;
     fn stelo_ckms_error_bound(ckms: Ckms, list: *const Entry, slots: usize, blocks: *const u32, places: usize) -> ErrorBound;
-}
-
-/// What a flat answer says: its value where the refusal is 0.
-fn given<T>(refusal: u32, value: T) -> Result<T, Refusal> {
-    match refusal {
-        0 => Ok(value),
-        1 => Err(Refusal::Slots),
-        2 => Err(Refusal::Epsilon),
-        3 => Err(Refusal::Block),
-        5 => Err(Refusal::Count),
-        6 => Err(Refusal::Full),
-        7 => Err(Refusal::Phi),
-        8 => Err(Refusal::Empty),
-        9 => Err(Refusal::BoundsEmpty),
-        10 => Err(Refusal::BoundsMany),
-        11 => Err(Refusal::BoundsOrder),
-        12 => Err(Refusal::File),
-        // 4; the contracts allow no other number.
-        _ => Err(Refusal::Damaged),
-    }
 }
 
 pub fn stream_open(epsilon: Fraction, list: &mut [Entry]) -> Result<Stream, Refusal> {

@@ -1,5 +1,5 @@
 //! The Greenwald-Khanna stream: quantiles of a scan of any length, in a list of entries that the caller lends.
-use crate::{ffi, Entry, Fraction, Refusal};
+use crate::{ffi, words, Entry, Fraction, Refusal};
 
 /// A stream's own words. The entries stand in a lent list, which each call is handed again.
 ///
@@ -21,7 +21,7 @@ use crate::{ffi, Entry, Fraction, Refusal};
 /// ```
 #[derive(Clone, Copy, PartialEq, Eq, Debug)]
 pub struct Stream {
-    words: ffi::Stream,
+    words: words::Stream,
 }
 
 impl Stream {
@@ -83,13 +83,13 @@ impl Stream {
 
     /// The state, to be stored: the error's numerator and denominator, the observations accepted, the entries held.
     pub fn words(&self) -> [u32; 4] {
-        let ffi::Stream { num, den, n, held } = self.words;
+        let words::Stream { num, den, n, held } = self.words;
         [num, den, n, held]
     }
 
     /// The state of stored [`words`](Stream::words). Any words are taken: those that are not sound with the list are refused by every call.
     pub fn from_words(w: [u32; 4]) -> Stream {
         let [num, den, n, held] = w;
-        Stream { words: ffi::Stream { num, den, n, held } }
+        Stream { words: words::Stream { num, den, n, held } }
     }
 }

@@ -1,5 +1,5 @@
 //! The histogram: how many observations fell into each of the bins that the caller's bounds cut. Bounds and counts are lent.
-use crate::{ffi, Refusal};
+use crate::{ffi, words, Refusal};
 
 /// The upper bound of a bin, or a bound that is asked for. +Inf is above every finite bound, and equals itself.
 #[derive(Clone, Copy, PartialEq, Eq, PartialOrd, Ord, Debug)]
@@ -28,7 +28,7 @@ pub enum Bound {
 /// ```
 #[derive(Clone, Copy, PartialEq, Eq, Debug)]
 pub struct Histogram {
-    words: ffi::Histogram,
+    words: words::Histogram,
 }
 
 impl Histogram {
@@ -108,7 +108,7 @@ impl Histogram {
 
     /// The state, to be stored: the count, 1 if there is a sum else 0, the sum.
     pub fn words(&self) -> [u64; 3] {
-        let ffi::Histogram { count, has_sum, sum } = self.words;
+        let words::Histogram { count, has_sum, sum } = self.words;
         [count, has_sum, sum]
     }
 
@@ -116,6 +116,6 @@ impl Histogram {
     /// counts, are refused by every call.
     pub fn from_words(w: [u64; 3]) -> Histogram {
         let [count, has_sum, sum] = w;
-        Histogram { words: ffi::Histogram { count, has_sum, sum } }
+        Histogram { words: words::Histogram { count, has_sum, sum } }
     }
 }

@@ -34,6 +34,7 @@ mod ffi;
 pub mod greenwald_khanna;
 pub mod histogram;
 pub mod owned;
+mod words;
 
 /// An entry of a summary.
 #[repr(C)]

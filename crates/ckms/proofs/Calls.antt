@@ -1,7 +1,6 @@
 -- The answers of opening, insert and query, and the lists that they leave, from the tests and steps behind them. Assumes nothing.
 use mathlib.Core.Path.{_≡_, refl, sym, ap, _∙_}
 use Prim.Native.Nat.{ℕ, _≤_, _<_}
-use native.Mathlib.Omega.{arith}
 use mathlib.Core.Bool.{Bool, true, false, cond, not}
 use mathlib.Core.List.{List}
 use lib.ListN.{length}
@@ -14,6 +13,7 @@ use Rattle.fraction.specs.Allowed.{isError}
 use Rattle.fraction.specs.Products.{period}
 use Rattle.entries.specs.declared.Entry.{Entry}
 use Rattle.entries.specs.Entry.{zeroEntry}
+use Rattle.entries.proofs.Guards.{differ}
 use Rattle.ckms_store.specs.declared.Checked.{Checked}
 use Rattle.ckms_store.specs.declared.Checked.the-variants as checking
 use Rattle.ckms_store.specs.declared.Store.{Store}
@@ -33,7 +33,8 @@ use Rattle.ckms.specs.State.{block, samples, modulus, recordSound}
 use Rattle.ckms.specs.Answers.{fresh, opened, zeroedBy, tested, checked, takenIn, stateOf, inserted, queried}
 use Rattle.ckms.specs.Posts.{OpenPost, InsertPost}
 use Rattle.ckms.specs.Steps.{Ready, TakePost}
-use Rattle.ckms.proofs.Tests.{answerOf, by-store, by-unsound, answered-by}
+use Rattle.ckms_store.proofs.Tested.{answerOf}
+use Rattle.ckms.proofs.Tests.{by-store, by-unsound, answered-by}
 
 module _ (c : CKMS) (list : List Entry) (lens : List ℕ) where
   -- where the tests pass, a call goes on to its own answer
@@ -47,8 +48,8 @@ module _ (c : CKMS) (list : List Entry) (lens : List ℕ) where
       answered = sym e;
       entries = rw e;
       blocks = rw e;
-      kept = λ next q. absurd (let z : _≡_ {A = ℕ} 0 1 = cc in omega arith);
-      ranged = λ next q. absurd (let z : _≡_ {A = ℕ} 0 1 = cc in omega arith);
+      kept = λ next q. absurd (differ (cc));
+      ranged = λ next q. absurd (differ (cc));
     }
 
     pub insert-untested : (why : Refusal) (k : Checked) → k ≡ checked c list lens → k ≡ checking.Refused why → InsertPost c list lens x (inserting.Refused why) list lens
@@ -109,8 +110,8 @@ module _ (error : Fraction) (list : List Entry) (lens : List ℕ) where
     where
       go : (p q : Bool) → store-opening.Open s ≡ cond (not p) (store-opening.Refused Slots) (cond (not q) (store-opening.Refused Epsilon) (store-opening.Open (answers.fresh error block))) → s ≡ answers.fresh error block
       go true true e = cc
-      go true false e = absurd (let z : _≡_ {A = ℕ} 0 1 = cc in omega arith)
-      go false q e = absurd (let z : _≡_ {A = ℕ} 0 1 = cc in omega arith)
+      go true false e = absurd (differ (cc))
+      go false q e = absurd (differ (cc))
 
   module _ (o : store.Opened) (list′ : List Entry) (lens′ : List ℕ) (p : posts.OpenPost error block list lens o list′ lens′) where
     abbrev a : opened error list lens ≡ carried o
@@ -121,7 +122,7 @@ module _ (error : Fraction) (list : List Entry) (lens : List ℕ) where
       answered = sym (ap carried e) ∙ sym a;
       entries = p .entries ∙ carried-list (answers.opened error block list lens) zeroEntry list ∙ ap (λ r. zeroedBy r zeroEntry list) (sym carried-opened);
       blocks = p .blocks ∙ carried-list (answers.opened error block list lens) 0 lens ∙ ap (λ r. zeroedBy r 0 lens) (sym carried-opened);
-      fresh = λ c q. absurd (let z : _≡_ {A = ℕ} 0 1 = cc in omega arith);
+      fresh = λ c q. absurd (differ (cc));
     }
 
     pub open-fresh : (s : Store) → o ≡ store-opening.Open s → OpenPost error list lens (opening.Open (fresh error)) list′ lens′

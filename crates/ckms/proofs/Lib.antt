@@ -1,5 +1,5 @@
+pub mod Abacus
 pub mod Calls
-pub mod Computed
 pub mod Exactly
 pub mod Outcomes
 pub mod States

@@ -4,24 +4,22 @@ use Prim.Native.Nat.{ℕ, suc, _+_, _-_, _≤_, _<_}
 use native.Mathlib.Nat.{mod-lt, le-max-left}
 use native.Mathlib.Omega.{arith}
 use mathlib.Core.Bool.{true, _&&_, cond, and-eq-true-iff}
-use mathlib.Core.List.{List, _++_}
+use mathlib.Core.List.{List}
 use lib.Dec.{eqb, ltb}
-use lib.ListN.{length, take, drop, replicate, length-map}
-use lib.Seq.{drop-at, length-take-le}
+use lib.ListN.{length, take}
 use borrow.Author.Tests.{lt-ltb, ltb-true, eq-eqb, ne-eqb}
 use Rattle.fraction.specs.declared.Fraction.{Fraction}
 use Rattle.fraction.specs.Products.{period}
 use Rattle.entries.specs.declared.Entry.{Entry}
-use Rattle.entries.specs.Entry.{entry, values, zeroEntry}
+use Rattle.entries.specs.Entry.{zeroEntry}
 use Rattle.entries.specs.Lists.{layout}
-use Rattle.ckms_rows.proofs.Grows.{length-put}
-use Rattle.ckms_rows.proofs.Skips.{below-le}
+use Rattle.entries.proofs.Layouts.{layout-front, layout-again}
 use Rattle.ckms_store.specs.declared.Store.{Store}
-use Rattle.ckms_store.specs.Held.{Held, heldIn, placeOf, newDelta, put, tidy}
+use Rattle.ckms_store.specs.Held.{Held, heldIn, tidy}
 use Rattle.ckms_store.specs.Answers.{stateOf, putIn}
 use Rattle.ckms_store.specs.Steps.{Left, PutPost, TidyPost}
 use Rattle.ckms_store.specs.Steps as stepping
-use Rattle.ckms_store.proofs.Layouts.{layout-front}
+use Rattle.ckms_store.proofs.Works.{put-length}
 use Rattle.ckms_store.specs.Sound as sounding
 use Rattle.ckms.specs.declared.CKMS.{CKMS}
 use Rattle.ckms.specs.declared.Last.the-variants as last
@@ -29,18 +27,6 @@ use Rattle.ckms.specs.declared.Cma.{Cma}
 use Rattle.ckms.specs.State.{block, samples, modulus, countOn, cmaAfter, lastSound, cmaSound, recordSound, sound}
 use Rattle.ckms.specs.Answers as ckms
 use Rattle.ckms.specs.Steps.{CmaPost, Ready, GrowPost, TakePost}
-
--- the second of two steps leaves the lent list as if the first had not been
-layout-again : {A : Type 0} (z : A) (es us xs : List A) (most : ℕ) → length es ≡ most → layout z us (length es) (layout z es most xs) ≡ layout z us most xs
-layout-again z es us xs most e =
-    let q : most - length es ≡ 0 = omega arith in rw (drop-at es (replicate (most - length es) z ++ drop most xs) (length es) refl, q, e)
-
-put-length : (s : Store) (list : List Entry) (lens : List ℕ) (x : ℕ) → s .held ≤ length list → length (putIn s list lens x .entries) ≡ suc (s .held)
-unfolding put
-put-length s list lens x h =
-    let k : Held = heldIn s list lens in
-    length-put (placeOf x k) (entry x 1 (newDelta (s .error) x k)) (k .entries) (omega (arith, below-le (values (k .entries)) x, length-map (k .entries) (λ (e : Entry). e .v)))
-    ∙ ap suc (length-take-le (s .held) list h)
 
 -- an insert leaves what a compression asks
 pub put-ready : (s p : Store) (list list₁ : List Entry) (lens lens₁ : List ℕ) (x : ℕ) → PutPost s list lens x p list₁ lens₁
@@ -58,18 +44,22 @@ module _ (s p r : Store) (list list₁ list₂ : List Entry) (lens lens₁ lens�
     state = b .state ∙ (λ i. stateOf (a .state i) (a .state i .n) (tidy (a .state i .error) (a .state i .block) (same i)));
     entries =
         b .entries ∙ (λ i. layout zeroEntry (tidy (a .state i .error) (a .state i .block) (same i) .entries) (a .state i .held) (a .entries i))
-        ∙ layout-again zeroEntry (h .entries) (tidy (s .error) (s .block) h .entries) list (suc (s .held)) (put-length s list lens x fit);
+        ∙ layout-again zeroEntry (h .entries) (suc (s .held)) list (omega (arith, long)) (tidy (s .error) (s .block) h .entries)
+        (length (h .entries)) long;
     blocks =
         b .blocks ∙ (λ i. layout 0 (tidy (a .state i .error) (a .state i .block) (same i) .blocks) (a .state i .blocks) (a .blocks i))
-        ∙ layout-again 0 (h .blocks) (tidy (s .error) (s .block) h .blocks) lens (length (h .blocks)) refl;
+        ∙ layout-again 0 (h .blocks) (length (h .blocks)) lens (omega arith) (tidy (s .error) (s .block) h .blocks) (length (h .blocks)) refl;
     kept = b .kept;
   }
     where
+      long : length (h .entries) ≡ suc (s .held)
+      long = put-length s list lens x fit
+
       es : take (p .held) list₁ ≡ h .entries
-      es = (λ i. take (a .state i .held) (a .entries i)) ∙ layout-front zeroEntry (h .entries) list (suc (s .held))
+      es = (λ i. take (a .state i .held) (a .entries i)) ∙ layout-front zeroEntry (h .entries) (suc (s .held)) list
 
       ls : take (p .blocks) lens₁ ≡ h .blocks
-      ls = (λ i. take (a .state i .blocks) (a .blocks i)) ∙ layout-front 0 (h .blocks) lens (length (h .blocks))
+      ls = (λ i. take (a .state i .blocks) (a .blocks i)) ∙ layout-front 0 (h .blocks) (length (h .blocks)) lens
 
       same : heldIn p list₁ lens₁ ≡ h
       same = λ i. record { entries = es i; blocks = ls i }

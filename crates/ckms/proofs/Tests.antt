@@ -1,12 +1,12 @@
 -- What the tests that every call makes first say of its answer. Assumes nothing.
 use mathlib.Core.Path.{_≡_, refl, sym, ap, _∙_}
 use Prim.Native.Nat.{ℕ, _≤_, _<_}
-use mathlib.Core.Bool.{Bool, true, false, cond, not, _&&_, true≢false}
+use mathlib.Core.Bool.{Bool, true, false, cond, _&&_}
 use mathlib.Core.List.{List}
 use lib.ListN.{length}
 use borrow.Author.Tests.{lt-ltb, le-ltb}
 use Rattle.refusal.specs.declared.Refusal.{Refusal}
-use Rattle.refusal.specs.declared.Refusal.the-variants.{Slots, Damaged}
+use Rattle.refusal.specs.declared.Refusal.the-variants.{Damaged}
 use Rattle.entries.specs.declared.Entry.{Entry}
 use Rattle.ckms_store.specs.declared.Store.{Store}
 use Rattle.ckms_store.specs.declared.Checked.{Checked}
@@ -14,6 +14,7 @@ use Rattle.ckms_store.specs.declared.Checked.the-variants as checking
 use Rattle.ckms_store.specs.Limits.{slotsOk}
 use Rattle.ckms_store.specs.Sound as sounding
 use Rattle.ckms_store.specs.Answers as answering
+use Rattle.ckms_store.proofs.Tested.{two, answerOf, by-check, check-passed}
 use Rattle.ckms.specs.declared.CKMS.{CKMS}
 use Rattle.ckms.specs.State.{modulus, lastSound, cmaSound, samples, recordSound, sound}
 use Rattle.ckms.specs.Answers.{tested, checked}
@@ -31,19 +32,7 @@ module _ (c : CKMS) (t : ℕ) (is : t ≡ modulus (c .error)) where
     pub last-sound : lastSound (c .n) (c .last_in) ≡ true → recordSound c ≡ cmaSound (c .n) (c .cma)
     last-sound b = rw (← is, lt-ltb (c .inserts) t h, b)
 
--- the answer of two tests, SLOTS and DAMAGED; and the same by the outcome of a check
-abbrev pub two : {A : Type 0} → (Refusal → A) → Bool → Bool → A → A
-two refused a b x = cond (not a) (refused Slots) (cond (not b) (refused Damaged) x)
-
-abbrev pub answerOf : {A : Type 0} → (Refusal → A) → A → Checked → A
-answerOf refused x checking.Sound = x
-answerOf refused x (checking.Refused why) = refused why
-
-by-check : {A : Type 0} (refused : Refusal → A) (x : A) (a b : Bool) → two refused a b x ≡ answerOf refused x (two checking.Refused a b checking.Sound)
-by-check refused x true true = refl
-by-check refused x true false = refl
-by-check refused x false b = refl
-
+-- the check of a CKMS: the store's, and then that of the rest
 by-two : (a b r : Bool) → two checking.Refused a (b && r) checking.Sound ≡ answerOf checking.Refused (cond r checking.Sound (checking.Refused Damaged)) (two checking.Refused a b checking.Sound)
 by-two true true true = refl
 by-two true true false = refl
@@ -61,11 +50,6 @@ by-unsound refused x true true r e = rw e
 by-unsound refused x true false r e = refl
 by-unsound refused x false b r e = refl
 
-passed : (a b : Bool) → two checking.Refused a b checking.Sound ≡ checking.Sound → (a ≡ true) × (b ≡ true)
-passed true true e = (refl, refl)
-passed true false e = absurd (true≢false (sym (ap (answerOf (λ _. false) true) e)))
-passed false b e = absurd (true≢false (sym (ap (answerOf (λ _. false) true) e)))
-
 module _ (c : CKMS) (list : List Entry) (lens : List ℕ) where
   -- a call answers by what its check found
   pub answered-by : {A : Type 0} (refused : Refusal → A) (x : A) (k l : Checked) → k ≡ checked c list lens → k ≡ l → tested refused c list lens x ≡ answerOf refused x l
@@ -75,7 +59,7 @@ module _ (c : CKMS) (list : List Entry) (lens : List ℕ) where
   -- a passed check is what a call's work asks
   pub ready : (k : Checked) → k ≡ checked c list lens → k ≡ checking.Sound → Ready c list lens
   unfolding checked
-  ready k e f = let p = passed (slotsOk (length list) (length lens)) (sound c list lens) (sym e ∙ f) in record { allowed = p .0; sound = p .1 }
+  ready k e f = let p = check-passed (slotsOk (length list) (length lens)) (sound c list lens) (sym e ∙ f) in record { allowed = p .0; sound = p .1 }
 
   -- the check itself: the store's, and then that of the rest
   pub checked-by : (s : Store) (k l : Checked) (r : Bool) → s ≡ samples c → k ≡ answering.checked s list lens → k ≡ l → recordSound c ≡ r → checked c list lens ≡ answerOf checking.Refused (cond r checking.Sound (checking.Refused Damaged)) l

@@ -5,7 +5,7 @@ use Prim.Native.Nat.{ℕ}
 use mathlib.Core.Bool.{false}
 use mathlib.Core.List.{List, [], _∷_}
 use lib.IntN.{pos}
-use lib.Ieee.{fin}
+use lib.Ieee.{fin, inf}
 use lib.ListN.{replicate}
 use Rattle.fraction.specs.declared.Fraction.{Fraction}
 use Rattle.entries.specs.declared.Entry.{Entry}
@@ -17,6 +17,7 @@ use Rattle.ckms.specs.declared.Cma.the-variants as cma
 use Rattle.ckms.specs.declared.Inserted.{Inserted}
 use Rattle.ckms.specs.declared.Inserted.the-variants as inserting
 use Rattle.ckms.specs.declared.Average.the-variants as averaging
+use Rattle.ckms.specs.State.{cmaSound}
 use Rattle.ckms.specs.Answers.{fresh, inserted, leftBy, newList, newLens, queried, cmaOf}
 
 -- num / den
@@ -65,3 +66,5 @@ pub record CkmsReadings : Type 0 where
   pub query-10 : queried (three .state) (three .list) (three .lens) (over 1 1) ≡ answering.Given (ranked 2 3)
   -- 12: the running mean of 0, 100 is 50, which is 25 · 2 ^ 1
   pub mean-12 : cmaOf (two .state) (two .list) (two .lens) ≡ averaging.Given (cma.Value record { value = fin false 25 (pos 1) })
+  -- a mean that is not finite is not sound
+  pub infinite-mean : cmaSound 1 (cma.Value record { value = inf false }) ≡ false

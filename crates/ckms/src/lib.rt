@@ -7,16 +7,14 @@ use fraction::Fraction;
 use mean::Mean;
 use refusal::Refusal;
 ghost use mathlib.Core.Path.{_≡_};
-ghost use Prim.Native.Nat.{_<_};
 ghost use Rattle.entries.specs.Entry.{entriesOf};
-ghost use Rattle.ckms.specs.State.{block, samples, modulus, countOn, lastSound, cmaSound, recordSound};
-ghost use Rattle.ckms.specs.Answers.{checked, queried, countOf, lastOf, cmaOf, errorOf};
+ghost use Rattle.ckms.specs.State.{block};
+ghost use Rattle.ckms.specs.Answers.{queried, countOf, lastOf, cmaOf, errorOf};
 ghost use Rattle.ckms.specs.Posts.{OpenPost, InsertPost};
 ghost use Rattle.ckms.specs.Promises.{Promises};
-ghost use Rattle.ckms.specs.Steps.{CmaPost, Ready, GrowPost, TakePost};
-ghost use Rattle.ckms_store.specs.Limits.{observations};
-ghost use Rattle.ckms_store.specs.Steps as store;
-ghost use lib.ListN.{length};
+
+mod record;
+mod steps;
 
 // The last value taken, or nothing while empty.
 pub enum Last {
@@ -77,73 +75,6 @@ pub enum ErrorBound {
     Refused(Refusal),
 }
 
-// How many inserts lie between two compressions: max(1, ⌊1/(2·error)⌋).
-fn insert_threshold(error: Fraction) -> u32
-    ensures { λ r. ⌜ r ≡ modulus error ⌝ }
-{
-    let period = error.period();
-    if period < 1 {
-        return 1;
-    }
-    period
-}
-
-// The insert counter after one insert more; at 0 the store is compressed.
-fn count_on(error: Fraction, inserts: u32) -> u32
-    requires { ⌜ inserts < modulus error ⌝ }
-    ensures { λ r. ⌜ r ≡ countOn error inserts ⌝ }
-{
-    let threshold = insert_threshold(error);
-    (inserts + 1) % threshold
-}
-
-// The mean with v as the last of n values.
-fn cma_after(cma: Cma, v: u32, n: u32) -> Cma
-    ensures { λ r. ⌜ CmaPost cma v n r ⌝ }
-{
-    match cma {
-        Cma::Nothing => Cma::Value(Mean::first(v)),
-        Cma::Value(m) => Cma::Value(m.next(v, n)),
-    }
-}
-
-// Whether there is a last value exactly when something was accepted.
-fn last_sound(n: u32, last_in: Last) -> bool
-    ensures { λ r. ⌜ r ≡ lastSound n last_in ⌝ }
-{
-    match last_in {
-        Last::Nothing => n == 0,
-        Last::Value(v) => 0 < n,
-    }
-}
-
-// Whether there is a mean exactly when something was accepted, and a finite one.
-fn cma_sound(n: u32, cma: Cma) -> bool
-    ensures { λ r. ⌜ r ≡ cmaSound n cma ⌝ }
-{
-    match cma {
-        Cma::Nothing => n == 0,
-        Cma::Value(m) => {
-            if 0 < n {
-                return mean::is_finite(m.value);
-            }
-            false
-        }
-    }
-}
-
-// The store after v went in: compressed if `inserts`, the counter after it, is 0.
-fn grow(samples: Store, inserts: u32, rows: &mut [[u32; 3]], lens: &mut [u32], v: u32) -> Store
-    requires { ⌜ store.Ready samples (entriesOf (now rows)) (now lens) × (samples .n < observations) × (samples .held < length (now rows)) ⌝ }
-    ensures { λ r. ⌜ GrowPost samples inserts (entriesOf (now (rows .entry))) (now (lens .entry)) v r (entriesOf (now (rows .exit))) (now (lens .exit)) ⌝ }
-{
-    let put = samples.put(rows, lens, v);
-    if inserts == 0 {
-        return put.tidy(rows, lens);
-    }
-    put
-}
-
 impl CKMS {
     // The block size of the store within.
     pub const BLOCK: u32 = 2048;
@@ -153,72 +84,6 @@ impl CKMS {
         ensures { λ r. ⌜ r ≡ block ⌝ }
     {
         CKMS::BLOCK
-    }
-
-    // The store within.
-    fn samples(self) -> Store
-        ensures { λ r. ⌜ r ≡ samples self ⌝ }
-    {
-        let error = self.error;
-        Store {
-            error,
-            n: self.n,
-            held: self.held,
-            block: CKMS::BLOCK,
-            blocks: self.blocks,
-        }
-    }
-
-    // Whether what a CKMS has beside its store is sound.
-    fn record_sound(self) -> bool
-        ensures { λ r. ⌜ r ≡ recordSound self ⌝ }
-    {
-        let error = self.error;
-        let last_in = self.last_in;
-        let cma = self.cma;
-        if insert_threshold(error) <= self.inserts {
-            return false;
-        }
-        if last_sound(self.n, last_in) {
-            return cma_sound(self.n, cma);
-        }
-        false
-    }
-
-    // SLOTS, then DAMAGED: what every call but opening tests first.
-    fn check(self, rows: &[[u32; 3]], lens: &[u32]) -> Checked
-        ensures { λ r. ⌜ r ≡ checked self (entriesOf (now (rows .entry))) (now (lens .entry)) ⌝ }
-    {
-        let samples = self.samples();
-        let store = samples.check(rows, lens);
-        if let Checked::Refused(why) = store {
-            return Checked::Refused(why);
-        }
-        if self.record_sound() {
-            return Checked::Sound;
-        }
-        Checked::Refused(Refusal::Damaged)
-    }
-
-    // One observation more: the work of `insert`, once its tests are passed.
-    fn take(self, rows: &mut [[u32; 3]], lens: &mut [u32], v: u32) -> CKMS
-        requires { ⌜ Ready self (entriesOf (now rows)) (now lens) × (self .n < observations) × (self .held < length (now rows)) ⌝ }
-        ensures { λ r. ⌜ TakePost self (entriesOf (now (rows .entry))) (now (lens .entry)) v r (entriesOf (now (rows .exit))) (now (lens .exit)) ⌝ }
-    {
-        let error = self.error;
-        let mean = self.cma;
-        let inserts = count_on(error, self.inserts);
-        let cma = cma_after(mean, v, self.n + 1);
-        let samples = grow(self.samples(), inserts, rows, lens, v);
-        CKMS {
-            error,
-            n: samples.n,
-            held: samples.held,
-            blocks: samples.blocks,
-            inserts,
-            last_in: Last::Value(v),
-            cma,
-        }
     }
 
     // A fresh CKMS over the lent lists, whose places become zero. Refused: SLOTS, EPSILON.

@@ -10,112 +10,78 @@ use ckms::LastIn;
 use ckms::Opened;
 use ckms_store::Answer;
 use fraction::Fraction;
-use fraction::wide;
 use mean::Mean;
-
-// Words, and no line's end.
-fn write(text: &[u8]) {
-    io::write_all(1, text);
-}
-
-// A line: words, and a number behind them.
-fn say(text: &[u8], n: u32) {
-    write(text);
-    io::print_decimal(1, wide(n));
-    write(b"\n");
-}
 
 fn say_opened(answer: Opened) {
     match answer {
-        Opened::Open(_) => write(b"opened\n"),
-        Opened::Refused(why) => say(b"open refused ", why.number()),
+        Opened::Open(_) => say::words(b"opened\n"),
+        Opened::Refused(why) => say::line(b"open refused ", why.number()),
     }
 }
 
 fn say_inserted(answer: Inserted) {
     match answer {
-        Inserted::Taken(c) => say(b"taken ", c.n),
-        Inserted::Refused(why) => say(b"insert refused ", why.number()),
+        Inserted::Taken(c) => say::line(b"taken ", c.n),
+        Inserted::Refused(why) => say::line(b"insert refused ", why.number()),
     }
 }
 
 fn say_count(answer: Counted) {
     match answer {
-        Counted::Count(n) => say(b"count ", n),
-        Counted::Refused(why) => say(b"count refused ", why.number()),
+        Counted::Count(n) => say::line(b"count ", n),
+        Counted::Refused(why) => say::line(b"count refused ", why.number()),
     }
 }
 
 fn say_last(answer: LastIn) {
     if let LastIn::Refused(why) = answer {
-        say(b"last refused ", why.number());
+        say::line(b"last refused ", why.number());
         return;
     }
     let LastIn::Given(last) = answer else {
         return;
     };
     match last {
-        Last::Nothing => write(b"last none\n"),
-        Last::Value(v) => say(b"last ", v),
+        Last::Nothing => say::words(b"last none\n"),
+        Last::Value(v) => say::line(b"last ", v),
     }
 }
 
 // The mean, which is compared with a whole number: none is printed digit by digit.
 fn say_cma(answer: Average, whole: u32) {
     if let Average::Refused(why) = answer {
-        say(b"cma refused ", why.number());
+        say::line(b"cma refused ", why.number());
         return;
     }
     let Average::Given(cma) = answer else {
         return;
     };
     let Cma::Value(m) = cma else {
-        write(b"cma none\n");
+        say::words(b"cma none\n");
         return;
     };
     if m.value == whole as f64 {
-        say(b"cma is ", whole);
+        say::line(b"cma is ", whole);
     } else {
-        say(b"cma is not ", whole);
+        say::line(b"cma is not ", whole);
     }
 }
 
 fn say_error(answer: ErrorBound) {
     if let ErrorBound::Refused(why) = answer {
-        say(b"error_bound refused ", why.number());
+        say::line(b"error_bound refused ", why.number());
         return;
     }
     let ErrorBound::Given(error) = answer else {
         return;
     };
-    write(b"error_bound ");
-    io::print_decimal(1, wide(error.num));
-    say(b"/", error.den);
+    say::pair(b"error_bound ", error.num, b"/", error.den);
 }
 
 fn say_answer(answer: Answer) {
-    if let Answer::Refused(why) = answer {
-        say(b"query refused ", why.number());
-        return;
-    }
-    let Answer::Given(at) = answer else {
-        return;
-    };
-    write(b"query gives rank ");
-    io::print_decimal(1, wide(at.rank));
-    say(b", value ", at.value);
-}
-
-// A line for each entry.
-fn say_rows(rows: &[[u32; 3]]) {
-    let mut i = 0;
-    while i < rows.len() {
-        let row = rows[i];
-        io::print_decimal(1, wide(row[0]));
-        write(b" ");
-        io::print_decimal(1, wide(row[1]));
-        say(b" ", row[2]);
-        i += 1;
+    match answer {
+        Answer::Given(at) => say::pair(b"query gives rank ", at.rank, b", value ", at.value),
+        Answer::Refused(why) => say::line(b"query refused ", why.number()),
     }
 }
 
@@ -178,7 +144,7 @@ fn reading_10() {
     say_cma(fresh.cma(&rows, &lens), 0);
     say_answer(fresh.query(&rows, &lens, Fraction { num: 1, den: 1 }));
     let c = fill(fresh, &mut rows, &mut lens, 3);
-    say_rows(&rows);
+    say::rows(b"", &rows);
     say_answer(c.query(&rows, &lens, Fraction { num: 1, den: 1 }));
     say_answer(c.query(&rows, &lens, Fraction { num: 2, den: 1 }));
     say_cma(c.cma(&rows, &lens), 2);
@@ -226,7 +192,7 @@ fn count() {
         return;
     };
     say_inserted(full.insert(&mut rows, &mut lens, 9));
-    say_rows(&rows);
+    say::rows(b"", &rows);
     say_cma(full.cma(&rows, &lens), 5);
 }
 

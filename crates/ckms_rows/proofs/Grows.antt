@@ -6,10 +6,11 @@ use Prim.Native.Nat.{ℕ, zero, suc, _+_, _≤_, _<_}
 use native.Mathlib.Omega.{arith}
 use native.Mathlib.Numerals.{add-one}
 use lib.Dec.{ltb}
-use lib.ListN.{length, getD, set, take, drop, length-append, length-drop, length-set, take-append-drop}
+use lib.ListN.{length, getD, set, take, drop, length-set, take-append-drop}
 use lib.Seq.{length-take-le, getD-take, set-append-left}
 use borrow.Author.Tests.{lt-ltb, le-ltb}
 use Rattle.entries.specs.Lists.{putAt}
+use Rattle.entries.proofs.Layouts.{length-put}
 use Rattle.ckms_rows.specs.Blocks.{grown}
 use Rattle.ckms_rows.specs.Seek.{Grown}
 
@@ -19,9 +20,6 @@ pub grown-some : (size b : ℕ) (ls : List ℕ) → 0 < length ls
 unfolding grown
 grown-some size b [] h = absurd (omega arith)
 grown-some size b (a ∷ ls) h = refl
-
-pub length-put : {A : Type 0} (k : ℕ) (x : A) (xs : List A) → k ≤ length xs → length (putAt k x xs) ≡ suc (length xs)
-length-put k x xs h = omega (arith, length-append (take k xs) (x ∷ drop k xs), length-take-le k xs h, length-drop k xs)
 
 -- the first block of an empty store
 pub grow-first : (size blocks b : ℕ) (lens : List ℕ) → blocks < 1 → blocks < length lens → Grown size blocks b lens 1 (set lens 0 1)
@@ -51,6 +49,6 @@ module _ (size blocks b : ℕ) (lens : List ℕ) (l : blocks < length lens) (h :
       let e : grown size b (take blocks lens) ≡ putAt (suc b) 1 (take blocks lens) =
       grown-some size b (take blocks lens) (omega (arith, front)) ∙ rw (getD-take blocks lens b 0 h, le-ltb (getD lens b 0) size g) in
       record {
-        count = omega (arith, ap length e, length-put (suc b) 1 (take blocks lens) (omega (arith, front)), front);
+        count = omega (arith, ap length e, length-put (suc b) 1 (take blocks lens), front);
         list = rw (e, add-one blocks) (rw (add-one b) at p);
       }

@@ -1,3 +1,4 @@
+pub mod Abacus
 pub mod Grows
 pub mod Joins
 pub mod Passes

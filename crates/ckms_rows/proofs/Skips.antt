@@ -1,32 +1,22 @@
 -- The search for a block, block by block: what is found behind the blocks that were skipped is found in the whole.
 -- Assumes nothing.
-use mathlib.Core.Path.{_≡_, refl, sym, ap, _∙_}
+use mathlib.Core.Path.{_≡_, refl, ap, _∙_}
 use mathlib.Core.List.{List, [], _∷_}
 use Prim.Native.Nat.{ℕ, zero, suc, _+_, _-_, _≤_, _<_}
 use native.Mathlib.Omega.{arith}
 use native.Mathlib.Numerals.{add-one}
 use borrow.Author.Tests.{lt-ltb, le-ltb}
-use lib.ListN.{length, getD, take, drop, length-drop, length-map, take-append-drop, drop-of-length-le}
+use lib.ListN.{length, getD, take, drop, length-take, length-drop, length-map, drop-of-length-le}
 use lib.Seq.{drop-cons, drop-drop, getD-drop}
 use Rattle.entries.specs.declared.Entry.{Entry}
 use Rattle.entries.specs.Entry.{entryOf, entriesOf, values, sumG}
 use Rattle.entries.specs.Ranks.{Rising, below}
-use Rattle.entries.proofs.Maps.{map-take, map-drop, value-at, values-take, values-drop, sum-append}
-use Rattle.entries.proofs.Counting.{below-append, below-le-upto, upto-le-length}
-use Rattle.entries.proofs.Places.{rising-take, rising-drop, all-smaller, none-smaller}
+use Rattle.entries.proofs.Maps.{map-take, map-drop, value-at}
+use Rattle.entries.proofs.Parts.{below-le, below-cut, sum-cut, sorted-drop, entryAt, part-entries}
+use Rattle.entries.proofs.Places.{all-smaller, none-smaller}
 use Rattle.ckms_rows.specs.declared.blocks.Start.{Start}
 use Rattle.ckms_rows.specs.Blocks.{total, lastOf, blockOf, rankOf}
 use Rattle.ckms_rows.specs.Seek.{NoneEmpty, InBlocks, Skipped, Sought}
-
--- the values before a, and from a on
-below-cut : (es : List Entry) (a x : ℕ) → below (values es) x ≡ below (values (take a es)) x + below (values (drop a es)) x
-below-cut es a x =
-    sym (ap (λ (l : List ℕ). below l x) (take-append-drop a (values es)))
-    ∙ below-append (take a (values es)) (drop a (values es)) x
-    ∙ rw (map-take (λ (e : Entry). e .v) a es, map-drop (λ (e : Entry). e .v) a es)
-
-pub below-le : (vs : List ℕ) (x : ℕ) → below vs x ≤ length vs
-below-le vs x = omega (arith, below-le-upto vs x, upto-le-length vs x)
 
 -- a block whose last value is smaller than x has only smaller ones
 all-below : (es : List Entry) (a x : ℕ) → 1 ≤ a → a ≤ length es → Rising 0 (values es) → lastOf a es < x → below (values (take a es)) x ≡ a
@@ -43,13 +33,6 @@ none-behind es (suc k) x p b r h =
     let l : k < length (values es) = omega (arith, length-map es (λ (e : Entry). e .v)) in
     let s : below (drop k (values es)) x ≡ 0 = none-smaller 0 (values es) k x l r (rw q at h) in
     rw (map-drop (λ (e : Entry). e .v) (suc k) es) (omega (arith, rw (drop-cons (values es) k 0 l) at s))
-
-sorted-drop : (es : List Entry) (k : ℕ) → Rising 0 (values es) → Rising 0 (values (drop k es))
-sorted-drop es k r = rw (map-drop (λ (e : Entry). e .v) k es) (rising-drop 0 (values es) k r)
-
--- a part's g, and those behind it
-pub sum-cut : (es : List Entry) (a : ℕ) → sumG es ≡ sumG (take a es) + sumG (drop a es)
-sum-cut es a = sym (ap sumG (take-append-drop a es)) ∙ sum-append (take a es) (drop a es)
 
 each-drop : (ls : List ℕ) (b : ℕ) → b < length ls → NoneEmpty ls → 1 ≤ getD ls b 0
 each-drop [] b h e = absurd (omega arith)
@@ -169,21 +152,37 @@ module _ (x : ℕ) (rows : List (List ℕ)) (ls : List ℕ) (w : InBlocks (entri
   pub search-none : 0 < length ls → Searching x rows ls 0 0 0
   search-none h = searching 0 0 0 (skip-none x (entriesOf rows) ls w h)
 
-  module _ (block start sum : ℕ) (s : Searching x rows ls block start sum) where
-    pub search-here : block + 1 < length ls → x ≤ getD (getD rows (start + getD ls block 0 - 1) []) 0 0 → Skipped x (entriesOf rows) ls record { block = block; start = start; sum = sum }
+  -- the code's own numbers: a is the length of this block, and b that of the next
+  module _ (block start sum a : ℕ) (s : Searching x rows ls block start sum) (p : a ≡ getD ls block 0) where
+    pub search-here : block + 1 < length ls → x ≤ entryAt rows (start + a - 1) .v
+        → Skipped x (entriesOf rows) ls record { block = block; start = start; sum = sum }
     search-here h g =
-        stop-here x (entriesOf rows) ls w block start sum (s .so-far) (omega arith) (omega (arith, value-at rows (start + getD ls block 0 - 1)))
+        stop-here x (entriesOf rows) ls w block start sum (s .so-far) (omega arith) (rw (← p) (omega (arith, value-at rows (start + a - 1))))
 
-    pub search-last : length ls ≤ block + 1 → Skipped x (entriesOf rows) ls record { block = block; start = start; sum = sum }
-    search-last h = stop-last x (entriesOf rows) ls w block start sum (s .so-far) (omega arith)
+    module _ (b : ℕ) (q : b ≡ getD ls (block + 1) 0) (h : block + 1 < length ls) (g : entryAt rows (start + a - 1) .v < x) where
+      -- the next block's rows, as they are cut out
+      abbrev part : List (List ℕ)
+      part = take (start + a + b - (start + a)) (drop (start + a) rows)
 
-    module _ (h : block + 1 < length ls) (g : getD (getD rows (start + getD ls block 0 - 1) []) 0 0 < x) where
-      pub search-on : Searching x rows ls (block + 1) (start + getD ls block 0) (sum + sumG (entriesOf (take (getD ls (block + 1) 0) (drop (start + getD ls block 0) rows))))
-      search-on =
-          let e : entriesOf (take (getD ls (suc block) 0) (drop (start + getD ls block 0) rows)) ≡ take (getD ls (suc block) 0) (drop (start + getD ls block 0) (entriesOf rows)) =
-          map-take entryOf (getD ls (suc block) 0) (drop (start + getD ls block 0) rows) ∙ ap (take (getD ls (suc block) 0)) (map-drop entryOf (start + getD ls block 0) rows) in
-          rw (add-one block, e) (searching (suc block) (start + getD ls block 0) (sum + sumG (take (getD ls (suc block) 0) (drop (start + getD ls block 0) (entriesOf rows))))
-          (go-on x (entriesOf rows) ls w block start sum (s .so-far) (omega arith) (omega (arith, value-at rows (start + getD ls block 0 - 1)))))
+      -- its g-sum is counted, and the search goes on behind this block
+      pub search-on : (n : ℕ) → n ≡ sumG (entriesOf part) → Searching x rows ls (block + 1) (start + a) (sum + n)
+      search-on n e =
+          let k : start + a + b - (start + a) ≡ b = omega arith in
+          let f : n ≡ sumG (take b (drop (start + a) (entriesOf rows))) = rw (k, part-entries rows (start + a) b) at e in
+          let t : ℕ = sumG (take (getD ls (suc block) 0) (drop (start + getD ls block 0) (entriesOf rows))) in
+          rw (add-one block, f, rw (add-one block) at q, p)
+          (searching (suc block) (start + getD ls block 0) (sum + t)
+          (go-on x (entriesOf rows) ls w block start sum (s .so-far) (omega arith) (rw (← p) (omega (arith, value-at rows (start + a - 1))))))
+
+      pub next-fits : start + a + b ≤ length rows
+      next-fits = omega (arith, search-on (sumG (entriesOf part)) refl .fits)
+
+      pub next-few : length part ≤ 65536
+      next-few = omega (arith, length-take (start + a + b - (start + a)) (drop (start + a) rows), next-fits, w .few, length-map rows entryOf)
+
+  pub search-last : (block start sum : ℕ) → Searching x rows ls block start sum → length ls ≤ block + 1
+      → Skipped x (entriesOf rows) ls record { block = block; start = start; sum = sum }
+  search-last block start sum s h = stop-last x (entriesOf rows) ls w block start sum (s .so-far) (omega arith)
 
 -- an empty store has no block
 pub seek-none : (x : ℕ) (es : List Entry) (ls : List ℕ) → InBlocks es ls → length ls < 1 → Sought x es ls record { block = 0; place = 0; rank = 0 }
@@ -192,17 +191,19 @@ seek-none x [] [] w h = record { found = refl; place = refl; rank = refl }
 seek-none x (e ∷ es) [] w h = absurd (omega (arith, w .all))
 seek-none x es (a ∷ ls) w h = absurd (omega arith)
 
--- in the block that was found, the smaller entries are counted
-pub seek-found : (x : ℕ) (rows : List (List ℕ)) (ls : List ℕ) (s : Start) (place rank : ℕ) → Skipped x (entriesOf rows) ls s
-    → place ≡ s .start + below (values (entriesOf (take (getD ls (s .block) 0) (drop (s .start) rows)))) x
-    → rank ≡ s .sum + below (values (entriesOf (take (getD ls (s .block) 0) (drop (s .start) rows)))) x
-    → Sought x (entriesOf rows) ls record { block = s .block; place = place; rank = rank }
-seek-found x rows ls s place rank z p r =
-    let e : entriesOf (take (getD ls (s .block) 0) (drop (s .start) rows)) ≡ take (getD ls (s .block) 0) (drop (s .start) (entriesOf rows)) =
-    map-take entryOf (getD ls (s .block) 0) (drop (s .start) rows) ∙ ap (take (getD ls (s .block) 0)) (map-drop entryOf (s .start) rows) in
-    record { found = z .found; place = rw e at p ∙ z .place; rank = rw e at r ∙ z .rank }
-
--- a part of sorted rows is sorted
-pub part-sorted : (rows : List (List ℕ)) (from many : ℕ) → Rising 0 (values (entriesOf rows)) → Rising 0 (values (entriesOf (take many (drop from rows))))
-part-sorted rows from many r =
-    rw (values-take many (drop from rows)) (rising-take 0 (values (entriesOf (drop from rows))) many (rw (values-drop from rows) (rising-drop 0 (values (entriesOf rows)) from r)))
+-- in the block that was found, of `len` entries, the smaller ones are counted: n. The numbers stay small
+pub seek-found : (x : ℕ) (rows : List (List ℕ)) (ls : List ℕ) (s : Start) (len n : ℕ) → InBlocks (entriesOf rows) ls → Skipped x (entriesOf rows) ls s
+    → len ≡ getD ls (s .block) 0
+    → n ≡ below (values (entriesOf (take (s .start + len - s .start) (drop (s .start) rows)))) x
+    → Sought x (entriesOf rows) ls record { block = s .block; place = s .start + n; rank = s .sum + n }
+    × (s .start + n ≤ 4096) × (s .sum + n ≤ 1000004096)
+seek-found x rows ls s len n w z l e =
+    let q : s .start + len - s .start ≡ getD ls (s .block) 0 = omega arith in
+    let f : n ≡ below (values (take (getD ls (s .block) 0) (drop (s .start) (entriesOf rows)))) x =
+    rw (q, part-entries rows (s .start) (getD ls (s .block) 0)) at e in
+    let m : s .start + n ≤ 4096 =
+    omega (arith, z .place, below-le (values (entriesOf rows)) x, length-map (entriesOf rows) (λ (e : Entry). e .v), w .few) in (
+      record { found = z .found; place = rw f (z .place); rank = rw f (z .rank) },
+      m,
+      omega (arith, z .low),
+    )

@@ -1,4 +1,4 @@
--- Block lengths: their sum, where a new value goes, and how a block grows.
+-- Block lengths: where a new value goes, and how a block grows.
 -- Assumes nothing: these are definitions.
 use Prim.Native.Nat.{ℕ, suc, _+_, _-_}
 use mathlib.Core.Bool.{cond}
@@ -9,11 +9,8 @@ use Rattle.entries.specs.declared.Entry.{Entry}
 use Rattle.entries.specs.Entry.{values, sumG}
 use Rattle.entries.specs.Lists.{putAt}
 use Rattle.entries.specs.Ranks.{below}
-
--- how many entries stand in blocks of these lengths
-abbrev pub total : List ℕ → ℕ
-total [] = 0
-total (a ∷ ls) = a + total ls
+-- how many entries stand in blocks of these lengths: `total`
+pub use Rattle.entries.specs.Total.{total}
 
 -- the last value of a block of a entries at the front of es
 abbrev pub lastOf : ℕ → List Entry → ℕ

@@ -1,6 +1,7 @@
 // The CKMS store's work on lent rows and block lengths: where a value goes, squashing, joining, the soundness of a list, and the walk of a query.
 ghost use mathlib.Core.Path.{_≡_};
 ghost use Prim.Native.Nat.{_<_, _^_};
+ghost use Rattle.ckms_rows.specs.Readings.{Readings};
 
 pub mod blocks;
 pub mod join;
@@ -14,3 +15,8 @@ pub fn place(x: u32) -> usize
 {
     x as usize
 }
+
+// Small readings of the definitions. This contract states them, so that none can go missing.
+pub fn promises()
+    ensures { λ _. ⌜ Readings ⌝ }
+{}

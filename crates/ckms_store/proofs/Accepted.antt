@@ -1,9 +1,10 @@
 -- An accepted call leaves a sound store, from any state that it accepts. Assumes nothing.
 use mathlib.Core.Path.{_≡_, sym}
+use Rattle.entries.proofs.Guards.{differ}
 use Rattle.ckms_store.specs.declared.Compressed.the-variants as compressing
 use Rattle.ckms_store.specs.Answers.{stateOf, tidyIn, compressed}
 use Rattle.ckms_store.specs.Promises.{SoundExactly, InsertSound, CompressSound}
-use Rattle.ckms_store.proofs.Exactly.{tested-own, taken-tells, differ}
+use Rattle.ckms_store.proofs.Exactly.{tested-own, taken-tells}
 use Rattle.ckms_store.proofs.Sounds.{sound-rules, rules-sound}
 use Rattle.ckms_store.proofs.Works.{put-sound, tidy-sound}
 
@@ -20,6 +21,7 @@ insert-sound s list lens x next e =
 pub compress-sound : CompressSound
 unfolding CompressSound compressed
 compress-sound s list lens next e =
-    let o = tested-own compressing.Refused (compressing.Done (stateOf s (s .n) (tidyIn s list lens))) s list lens (compressing.Done next) (λ e. differ (cc)) (λ e. differ (cc)) e in
+    let o =
+    tested-own compressing.Refused (compressing.Done (stateOf s (s .n) (tidyIn s list lens))) s list lens e (λ z. differ (cc)) (λ z. differ (cc)) in
     let w : stateOf s (s .n) (tidyIn s list lens) ≡ next = let d = o .1 in cc in
     rw (e, sym w) (tidy-sound s list lens (o .0))

@@ -1,23 +1,15 @@
 -- The numbers of a query fit 64 bits. Assumes nothing.
-use mathlib.Core.Path.{_≡_}
-use mathlib.Core.Bool.{true}
 use mathlib.Core.List.{List}
-use Prim.Native.Nat.{ℕ, _+_, _*_, _≤_}
-use native.Mathlib.Nat.{le-trans, div-le-of-le-mul, mul-le-mul, mul-le-mul-right, max-le}
+use Prim.Native.Nat.{_*_, _≤_}
+use native.Mathlib.Nat.{mul-le-mul}
 use native.Mathlib.Omega.{arith}
 use Rattle.fraction.specs.declared.Fraction.{Fraction}
-use Rattle.fraction.specs.Allowed.{isPhi, isError}
 use Rattle.fraction.specs.Inv.{invAt}
-use Rattle.fraction.proofs.Tests.{phi-facts, error-facts}
+use Rattle.fraction.proofs.Laws.{inv-at-le}
+use Rattle.fraction.proofs.Tests.{phi-facts}
 use Rattle.entries.specs.declared.Entry.{Entry}
 use Rattle.ckms_store.specs.declared.Store.{Store}
 use Rattle.ckms_store.specs.Steps.{Asking}
-
--- inv at q·n of an allowed error and an allowed q is at most twice n, or 1
-pub inv-at-le : (f q : Fraction) (n : ℕ) → isError f ≡ true → isPhi q ≡ true → invAt f q n ≤ 2 * n + 1
-inv-at-le f q n h p =
-    let both : f .num * q .num ≤ f .den * q .den = mul-le-mul (phi-facts f (error-facts f h .0) .2) (phi-facts q p .2) in
-    max-le (omega arith) (le-trans (div-le-of-le-mul (f .den * q .den) {n = 2 * n} (omega (arith, mul-le-mul-right (2 * n) both))) (omega arith))
 
 module _ (s : Store) (list : List Entry) (q : Fraction) (a : Asking s list q) where
   pub rank-part : q .num * s .n ≤ 65536 * 1000000000

@@ -1,19 +1,21 @@
 -- The tests of every call, and the answers and lists that follow from them. Assumes nothing.
 use mathlib.Core.Path.{_≡_, refl, sym, ap, _∙_}
-use mathlib.Core.Bool.{Bool, true, false, cond, not}
+use mathlib.Core.Bool.{true, false}
 use mathlib.Core.List.{List}
 use Prim.Native.Nat.{ℕ, suc, _≤_, _<_}
 use native.Mathlib.Omega.{arith}
 use borrow.Author.Tests.{le-leb, lt-leb, eq-eqb, ne-eqb}
 use lib.ListN.{length, take}
 use Rattle.refusal.specs.declared.Refusal.{Refusal}
-use Rattle.refusal.specs.declared.Refusal.the-variants.{Slots, Epsilon, Block, Damaged, Count, Full, Phi, Empty}
+use Rattle.refusal.specs.declared.Refusal.the-variants.{Slots, Epsilon, Block, Count, Full, Phi, Empty}
 use Rattle.fraction.specs.declared.Fraction.{Fraction}
 use Rattle.fraction.specs.Allowed.{isPhi, isError}
 use Rattle.entries.specs.declared.Entry.{Entry}
 use Rattle.entries.specs.Entry.{zeroEntry}
 use Rattle.entries.specs.Lists.{cleared}
 use Rattle.entries.proofs.Choose.{by-order}
+use Rattle.entries.proofs.Guards.{differ}
+use Rattle.entries.proofs.Layouts.{cleared-all}
 use Rattle.ckms_rows.specs.declared.walk.Ranked.{Ranked}
 use Rattle.ckms_rows.specs.Walk.{lookUp}
 use Rattle.ckms_store.specs.declared.Store.{Store}
@@ -29,31 +31,19 @@ use Rattle.ckms_store.specs.Sound.{sound}
 use Rattle.ckms_store.specs.Steps.{Ready, Asking, PutPost, TidyPost}
 use Rattle.ckms_store.specs.Held.{nothing}
 use Rattle.ckms_store.proofs.Kept.{kept-sound}
-use Rattle.ckms_store.proofs.Layouts.{cleared-all}
+use Rattle.ckms_store.proofs.Tested.{answerOf, by-check, check-passed}
 use Rattle.ckms_store.proofs.Works.{rules, slots-are}
 
 module _ (s : Store) (list : List Entry) (lens : List ℕ) where
   -- a refusal of the tests is the answer of every call
   pub refused : {A : Type 0} (says : Refusal → A) (a : A) (why : Refusal) → checking.Refused why ≡ checked s list lens → says why ≡ tested says s list lens a
   unfolding checked
-  refused says a why e = go (slotsOk (length list) (length lens)) (sound s list lens) e
-    where
-      go : (p q : Bool) → checking.Refused why ≡ cond (not p) (checking.Refused Slots) (cond (not q) (checking.Refused Damaged) checking.Sound)
-          → says why ≡ cond (not p) (says Slots) (cond (not q) (says Damaged) a)
-      go true true e = absurd (let z : _≡_ {A = ℕ} 0 1 = cc in omega arith)
-      go true false e = let w : why ≡ Damaged = cc in rw w
-      go false q e = let w : why ≡ Slots = cc in rw w
+  refused says a why e = ap (answerOf says a) e ∙ sym (by-check says a (slotsOk (length list) (length lens)) (sound s list lens))
 
   -- where they pass, each call goes on to its own answer
   pub passed : checking.Sound ≡ checked s list lens → Ready s list lens
   unfolding checked
-  passed e = go (slotsOk (length list) (length lens)) (sound s list lens) refl refl e
-    where
-      go : (p q : Bool) → slotsOk (length list) (length lens) ≡ p → sound s list lens ≡ q
-          → checking.Sound ≡ cond (not p) (checking.Refused Slots) (cond (not q) (checking.Refused Damaged) checking.Sound) → Ready s list lens
-      go true true a b e = record { allowed = a; sound = b }
-      go true false a b e = absurd (let z : _≡_ {A = ℕ} 0 1 = cc in omega arith)
-      go false q a b e = absurd (let z : _≡_ {A = ℕ} 0 1 = cc in omega arith)
+  passed e = let t = check-passed (slotsOk (length list) (length lens)) (sound s list lens) (sym e) in record { allowed = t .0; sound = t .1 }
 
   pub own : {A : Type 0} (says : Refusal → A) (a : A) → Ready s list lens → tested says s list lens a ≡ a
   own says a r = rw (r .allowed, r .sound)
@@ -65,7 +55,7 @@ module _ (s : Store) (list : List Entry) (lens : List ℕ) where
       answered = e;
       entries = rw (sym e);
       blocks = rw (sym e);
-      kept = λ next q. absurd (let z : _≡_ {A = ℕ} 0 1 = cc in omega arith);
+      kept = λ next q. absurd (differ (cc));
     }
 
     pub insert-untested : (why : Refusal) → checking.Refused why ≡ checked s list lens → InsertPost s list lens x (inserting.Refused why) list lens
@@ -98,7 +88,7 @@ module _ (s : Store) (list : List Entry) (lens : List ℕ) where
   unfolding compressed
   compress-untested why e =
       let c : compressing.Refused why ≡ compressed s list lens = refused compressing.Refused _ why e in
-      record { answered = c; entries = rw (sym c); blocks = rw (sym c); kept = λ next q. absurd (let z : _≡_ {A = ℕ} 0 1 = cc in omega arith) }
+      record { answered = c; entries = rw (sym c); blocks = rw (sym c); kept = λ next q. absurd (differ (cc)) }
 
   pub compress-done : Ready s list lens → (after : Store) (list′ : List Entry) (lens′ : List ℕ) → TidyPost s list lens after list′ lens′ → CompressPost s list lens (compressing.Done after) list′ lens′
   unfolding compressed
@@ -147,7 +137,7 @@ module _ (error : Fraction) (block : ℕ) (list : List Entry) (lens : List ℕ) 
     answered = e;
     entries = rw (sym e);
     blocks = rw (sym e);
-    fresh = λ s q. absurd (let z : _≡_ {A = ℕ} 0 1 = cc in omega arith);
+    fresh = λ s q. absurd (differ (cc));
   }
 
   pub open-slots : slotsOk (length list) (length lens) ≡ false → OpenPost error block list lens (opening.Refused Slots) list lens

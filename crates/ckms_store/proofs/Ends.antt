@@ -11,9 +11,9 @@ use Rattle.entries.specs.Entry.{values}
 use Rattle.entries.specs.Ranks.{Rising, below}
 use Rattle.entries.proofs.Choose.{by-order}
 use Rattle.entries.proofs.Counting.{below-one, below-none, below-append}
+use Rattle.entries.proofs.Parts.{below-le}
 use Rattle.entries.proofs.Places.{all-smaller, none-smaller}
 use Rattle.entries.proofs.Sorting.{none-below}
-use Rattle.ckms_rows.proofs.Skips.{below-le}
 use Rattle.ckms_store.specs.Promises.{EndsByValue}
 
 -- all of a sorted list are smaller exactly when its last is

@@ -1,7 +1,7 @@
+pub mod Abacus
 pub mod Accepted
 pub mod Asks
 pub mod Calls
-pub mod Computed
 pub mod Ends
 pub mod Exactly
 pub mod Kept
@@ -9,6 +9,7 @@ pub mod Layouts
 pub mod Outcomes
 pub mod Puts
 pub mod Sounds
+pub mod Tested
 pub mod Tests
 pub mod Tidies
 pub mod Works

@@ -15,12 +15,12 @@ use Rattle.entries.specs.Lists.{putAt}
 use Rattle.entries.specs.Ranks.{Rising, below}
 use Rattle.entries.proofs.Choose.{cond-cases, lt-cases, by-order}
 use Rattle.entries.proofs.Counting.{below-one, below-none}
+use Rattle.entries.proofs.Layouts.{length-put}
 use Rattle.entries.proofs.Maps.{map-putAt}
+use Rattle.entries.proofs.Parts.{below-le, sum-cut}
 use Rattle.entries.proofs.Sorting.{none-below}
 use Rattle.ckms_rows.specs.Blocks.{total, lastOf, blockOf, rankOf, grown}
-use Rattle.ckms_rows.proofs.Grows.{length-put}
 use Rattle.fraction.proofs.Laws.{inv-le}
-use Rattle.ckms_rows.proofs.Skips.{below-le, sum-cut}
 use Rattle.ckms_store.specs.Held.{Held, placeOf, newDelta, put}
 use Rattle.ckms_store.specs.Limits.{observations, deltas}
 use Rattle.ckms_store.specs.Sound.{EachCounts, EachFits}
@@ -117,9 +117,5 @@ put-kept error size n x h e p l k =
       each = each-put (placeOf x h) (entry x 1 d) (h .entries) (k .each) (omega arith) (delta-small error size n x h e l k);
       summed = omega (arith, sum-put (placeOf x h) (entry x 1 d) (h .entries), k .summed);
       blocks = g .0;
-      all = omega (arith, g .1, k .all, put-length error size x h);
+      all = omega (arith, g .1, k .all, length-put (placeOf x h) (entry x 1 d) (h .entries));
     }
-  where
-    put-length : (error : Fraction) (size x : ℕ) (h : Held) → length (putAt (placeOf x h) (entry x 1 (newDelta error x h)) (h .entries)) ≡ suc (length (h .entries))
-    put-length error size x h =
-        length-put (placeOf x h) (entry x 1 (newDelta error x h)) (h .entries) (omega (arith, below-le (values (h .entries)) x, length-map (h .entries) (λ (e : Entry). e .v)))

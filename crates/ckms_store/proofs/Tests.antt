@@ -1,6 +1,6 @@
 -- What the soundness test says, rule by rule, and back. Assumes nothing.
 use mathlib.Core.Path.{_≡_}
-use mathlib.Core.Bool.{Bool, true, _&&_, and-eq-true-iff}
+use mathlib.Core.Bool.{true, _&&_}
 use mathlib.Core.List.{List, [], _∷_}
 use Prim.Native.Nat.{ℕ, _+_, _≤_}
 use native.Mathlib.Omega.{arith}
@@ -10,15 +10,12 @@ use Rattle.fraction.specs.Allowed.{isError}
 use Rattle.entries.specs.declared.Entry.{Entry}
 use Rattle.entries.specs.Entry.{values, sumG}
 use Rattle.entries.specs.Ranks.{Rising}
+use Rattle.entries.proofs.Guards.{both}
 use Rattle.ckms_rows.specs.Blocks.{total}
 use Rattle.ckms_rows.specs.Lists.{entriesSound, blocksSound}
 use Rattle.ckms_store.specs.declared.Store.{Store}
 use Rattle.ckms_store.specs.Limits.{slots, sizes, observations, deltas, slotsOk, sizeOk}
 use Rattle.ckms_store.specs.Sound.{wordsSound, EachCounts, EachFits}
-
--- two tests that both hold
-both : (a b : Bool) → (a && b) ≡ true → (a ≡ true) × (b ≡ true)
-both a b h = and-eq-true-iff a b .0 h
 
 pub slots-facts : (rows places : ℕ) → slotsOk rows places ≡ true → (1 ≤ rows) × (rows ≤ 4096) × (places ≡ rows)
 slots-facts rows places h =

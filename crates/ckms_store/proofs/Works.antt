@@ -2,25 +2,24 @@
 -- Assumes nothing.
 use mathlib.Core.Path.{_≡_, refl, sym, ap, _∙_}
 use mathlib.Core.Bool.{true}
-use mathlib.Core.List.{List, [], _∷_, _++_, map-append}
+use mathlib.Core.List.{List, [], _∷_, _++_}
 use Prim.Native.Nat.{ℕ, suc, _+_, _-_, _≤_, _<_}
 use native.Mathlib.Omega.{arith}
 use borrow.Author.Tests.{lt-ltb, le-ltb}
-use lib.ListN.{length, getD, take, drop, replicate, length-append, length-map, take-append-drop}
+use lib.ListN.{length, getD, take, drop, length-append, length-map, take-append-drop}
 use lib.Seq.{length-take-le, take-at, drop-at}
 use Rattle.fraction.specs.declared.Fraction.{Fraction}
 use Rattle.entries.specs.declared.Entry.{Entry}
-use Rattle.entries.specs.Entry.{entry, zeroEntry, entryOf, entriesOf, values}
+use Rattle.entries.specs.Entry.{entry, zeroEntry, values}
 use Rattle.entries.specs.Lists.{putAt, layout}
-use Rattle.entries.proofs.Maps.{map-take, map-drop, map-putAt}
+use Rattle.entries.proofs.Layouts.{length-put, layout-front, layout-room, layout-full}
+use Rattle.entries.proofs.Parts.{below-le}
 use Rattle.ckms_rows.specs.declared.blocks.Spot.{Spot}
 use Rattle.ckms_rows.specs.Blocks.{total, blockOf, grown}
 use Rattle.ckms_rows.specs.Seek.{NoneEmpty, InBlocks, Sought, Grown}
 use Rattle.ckms_rows.specs.Pass.{Whole}
 use Rattle.ckms_rows.specs.Squash.{squashed, marks, kept}
 use Rattle.ckms_rows.specs.Join.{joined}
-use Rattle.ckms_rows.proofs.Grows.{length-put}
-use Rattle.ckms_rows.proofs.Skips.{below-le}
 use Rattle.ckms_store.specs.declared.Store.{Store}
 use Rattle.ckms_store.specs.Held.{Held, heldIn, placeOf, deltaAt, newDelta, put, tidy}
 use Rattle.ckms_store.specs.Limits.{observations}
@@ -32,7 +31,6 @@ use Rattle.ckms_store.proofs.Sounds.{sound-rules}
 use Rattle.ckms_store.proofs.Kept.{Kept, sound-kept, kept-sound, blocks-least}
 use Rattle.ckms_store.proofs.Puts.{put-kept, block-inside, rank-small}
 use Rattle.ckms_store.proofs.Tidies.{tidy-kept}
-use Rattle.ckms_store.proofs.Layouts.{layout-full, layout-front}
 
 -- a state is its fields
 store-eq : (a : Store) (e : Fraction) (n h b k : ℕ) → a .error ≡ e → a .n ≡ n → a .held ≡ h → a .block ≡ b → a .blocks ≡ k
@@ -63,26 +61,25 @@ tidy-many : (error : Fraction) (size : ℕ) (h : Held) → 3 ≤ length (h .entr
 unfolding tidy
 tidy-many error size h l = rw (le-ltb (length (h .entries)) 3 l)
 
--- a row put in among the rows, as an entry among their entries
-pub put-rows : (k held x d : ℕ) (rows rows′ : List (List ℕ)) → rows′ ≡ putAt k (x ∷ 1 ∷ d ∷ []) (take held rows) ++ drop (suc held) rows
-    → entriesOf rows′ ≡ putAt k (entry x 1 d) (take held (entriesOf rows)) ++ drop (suc held) (entriesOf rows)
-put-rows k held x d rows rows′ e =
-    ap entriesOf e ∙ map-append entryOf (putAt k (x ∷ 1 ∷ d ∷ []) (take held rows)) (drop (suc held) rows)
-    ∙ rw (map-putAt entryOf k (x ∷ 1 ∷ d ∷ []) (take held rows), map-take entryOf held rows, map-drop entryOf (suc held) rows)
-
--- a lent list has room for what is laid out in it
-pub layout-room : {A : Type 0} (z : A) (es list : List A) (most : ℕ) → length es ≤ length (layout z es most list)
-layout-room z es list most = omega (arith, length-append es (replicate (most - length es) z ++ drop most list))
+-- an accepted insert holds one entry more
+pub put-length : (s : Store) (list : List Entry) (lens : List ℕ) (x : ℕ) → s .held ≤ length list
+    → length (putIn s list lens x .entries) ≡ suc (s .held)
+unfolding put
+put-length s list lens x h =
+    length-put (placeOf x (heldIn s list lens)) (entry x 1 (newDelta (s .error) x (heldIn s list lens))) (take (s .held) list)
+    ∙ ap suc (length-take-le (s .held) list h)
 
 -- what is counted stands in the lent list
 pub grown-inside : (size blocks b : ℕ) (lens : List ℕ) (after : ℕ) (lens′ : List ℕ) → Grown size blocks b lens after lens′ → after ≤ length lens′
 grown-inside size blocks b lens after lens′ g = omega (arith, g .count, ap length (g .list), length-append (grown size b (take blocks lens)) (drop after lens))
 
 pub squash-inside : (error : Fraction) (held blocks : ℕ) (list : List Entry) (lens : List ℕ) (after : ℕ) (list′ : List Entry) (lens′ : List ℕ) → SquashPost error held blocks list lens after list′ lens′ → after ≤ length list′
-squash-inside error held blocks list lens after list′ lens′ q = omega (arith, q .count, ap length (q .entries), layout-room zeroEntry (squashed error (take held list)) list held)
+squash-inside error held blocks list lens after list′ lens′ q =
+    omega (arith, q .count, ap length (q .entries), layout-room zeroEntry (squashed error (take held list)) held list)
 
 pub join-inside : (size blocks : ℕ) (lens : List ℕ) (after : ℕ) (lens′ : List ℕ) → JoinPost size blocks lens after lens′ → after ≤ length lens′
-join-inside size blocks lens after lens′ j = omega (arith, j .count, ap length (j .lengths), layout-room 0 (joined size (take blocks lens)) lens blocks)
+join-inside size blocks lens after lens′ j =
+    omega (arith, j .count, ap length (j .lengths), layout-room 0 (joined size (take blocks lens)) blocks lens)
 
 module _ (s : Store) (list : List Entry) (lens : List ℕ) (r : Ready s list lens) where
   pub rules : Rules s list lens
@@ -120,7 +117,8 @@ module _ (s : Store) (list : List Entry) (lens : List ℕ) (r : Ready s list len
     blocks = t;
     kept = rw (p, q, t)
         (kept-sound s n h (layout zeroEntry (h .entries) most list) (layout 0 (h .blocks) mostBlocks lens) k (rules .error) c (rules .size)
-        (layout-room zeroEntry (h .entries) list most) (layout-room 0 (h .blocks) lens mostBlocks) (layout-front zeroEntry (h .entries) list most) (layout-front 0 (h .blocks) lens mostBlocks));
+        (layout-room zeroEntry (h .entries) most list) (layout-room 0 (h .blocks) mostBlocks lens) (layout-front zeroEntry (h .entries) most list)
+        (layout-front 0 (h .blocks) mostBlocks lens));
   }
 
   pub size-pos : 1 ≤ s .block
@@ -147,11 +145,6 @@ module _ (s : Store) (list : List Entry) (lens : List ℕ) (r : Ready s list len
     pub block-there : spot .block ≤ s .blocks - 1
     block-there = omega (arith, f .found, block-last x (take (s .held) list) (take (s .blocks) lens), blocks-long)
 
-    put-length : length (putIn s list lens x .entries) ≡ suc (s .held)
-    unfolding put
-    put-length =
-        length-put (placeOf x (heldIn s list lens)) (entry x 1 (newDelta (s .error) x (heldIn s list lens))) (take (s .held) list) (omega (arith, f .place, place-inside, held-long)) ∙ ap suc held-long
-
     -- the entries and the lengths that the inner functions left
     pub put-left : (d : ℕ) (a : Store) (list′ : List Entry) (lens′ : List ℕ) → d ≡ deltaAt (s .error) (spot .place) (s .held) (spot .rank)
         → list′ ≡ putAt (spot .place) (entry x 1 d) (take (s .held) list) ++ drop (suc (s .held)) list → Grown (s .block) (s .blocks) (spot .block) lens (a .blocks) lens′
@@ -162,11 +155,12 @@ module _ (s : Store) (list : List Entry) (lens : List ℕ) (r : Ready s list len
         let h : Held = putIn s list lens x in
         let new : d ≡ newDelta (s .error) x (heldIn s list lens) = e ∙ rw (f .place, f .rank, held-long) in
         let c : a .blocks ≡ length (h .blocks) = rw (f .found) at (g .count) in
+        let long : length (h .entries) ≡ suc (s .held) = put-length s list lens x (rules .fits) in
         left (suc (s .n)) h (suc (s .held)) (length (h .blocks)) a list′ lens′
         (put-kept (s .error) (s .block) (s .n) x (heldIn s list lens) (rules .error) size-pos l (sound-kept s list lens rules)) l
-        (store-eq a (s .error) (suc (s .n)) (length (h .entries)) (s .block) (length (h .blocks)) a₁ (omega arith) (omega (arith, put-length)) a₄ c)
-        (rw (f .place, new) at p ∙ layout-full zeroEntry (h .entries) list (suc (s .held)) put-length)
-        (rw (f .found, c) at (g .list) ∙ layout-full 0 (h .blocks) lens (length (h .blocks)) refl)
+        (store-eq a (s .error) (suc (s .n)) (length (h .entries)) (s .block) (length (h .blocks)) a₁ (omega arith) (omega (arith, long)) a₄ c)
+        (rw (f .place, new) at p ∙ layout-full zeroEntry (h .entries) (suc (s .held)) list long)
+        (rw (f .found, c) at (g .list) ∙ layout-full 0 (h .blocks) (length (h .blocks)) lens refl)
 
   module _ (h : 3 ≤ s .held) where
     -- what the two halves of a compression ask
@@ -208,5 +202,5 @@ module _ (s : Store) (list : List Entry) (lens : List ℕ) (r : Ready s list len
       let e : tidyIn s list lens ≡ heldIn s list lens = tidy-none (s .error) (s .block) (heldIn s list lens) (omega (arith, held-long)) in
       left (s .n) (tidyIn s list lens) (s .held) (s .blocks) s list lens (tidy-kept (s .error) (s .block) (s .n) (heldIn s list lens) (sound-kept s list lens rules)) (rules .count)
       (rw e (store-eq s (s .error) (s .n) (length (take (s .held) list)) (s .block) (length (take (s .blocks) lens)) refl refl (sym held-long) refl (sym blocks-long)))
-      (rw e (sym (take-append-drop (s .held) list) ∙ layout-full zeroEntry (take (s .held) list) list (s .held) held-long))
-      (rw e (sym (take-append-drop (s .blocks) lens) ∙ layout-full 0 (take (s .blocks) lens) lens (s .blocks) blocks-long))
+      (rw e (sym (take-append-drop (s .held) list) ∙ layout-full zeroEntry (take (s .held) list) (s .held) list held-long))
+      (rw e (sym (take-append-drop (s .blocks) lens) ∙ layout-full 0 (take (s .blocks) lens) (s .blocks) lens blocks-long))

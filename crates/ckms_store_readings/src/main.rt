@@ -7,45 +7,32 @@ use ckms_store::Len;
 use ckms_store::Opened;
 use ckms_store::Store;
 use fraction::Fraction;
-use fraction::wide;
-
-// Words, and no line's end.
-fn write(text: &[u8]) {
-    io::write_all(1, text);
-}
-
-// A line: words, and a number behind them.
-fn say(text: &[u8], n: u32) {
-    write(text);
-    io::print_decimal(1, wide(n));
-    write(b"\n");
-}
 
 fn say_opened(answer: Opened) {
     match answer {
-        Opened::Open(_) => write(b"opened\n"),
-        Opened::Refused(why) => say(b"open refused ", why.number()),
+        Opened::Open(_) => say::words(b"opened\n"),
+        Opened::Refused(why) => say::line(b"open refused ", why.number()),
     }
 }
 
 fn say_inserted(answer: Inserted) {
     match answer {
-        Inserted::Taken(s) => say(b"taken ", s.n),
-        Inserted::Refused(why) => say(b"insert refused ", why.number()),
+        Inserted::Taken(s) => say::line(b"taken ", s.n),
+        Inserted::Refused(why) => say::line(b"insert refused ", why.number()),
     }
 }
 
 fn say_compressed(answer: Compressed) {
     match answer {
-        Compressed::Done(s) => say(b"compressed, held ", s.held),
-        Compressed::Refused(why) => say(b"compress refused ", why.number()),
+        Compressed::Done(s) => say::line(b"compressed, held ", s.held),
+        Compressed::Refused(why) => say::line(b"compress refused ", why.number()),
     }
 }
 
 fn say_len(answer: Len) {
     match answer {
-        Len::Held(n) => say(b"len ", n),
-        Len::Refused(why) => say(b"len refused ", why.number()),
+        Len::Held(n) => say::line(b"len ", n),
+        Len::Refused(why) => say::line(b"len refused ", why.number()),
     }
 }
 
@@ -53,88 +40,59 @@ fn say_empty(answer: IsEmpty) {
     match answer {
         IsEmpty::Is(yes) => {
             if yes {
-                write(b"empty\n");
+                say::words(b"empty\n");
             } else {
-                write(b"not empty\n");
+                say::words(b"not empty\n");
             }
         }
-        IsEmpty::Refused(why) => say(b"is_empty refused ", why.number()),
+        IsEmpty::Refused(why) => say::line(b"is_empty refused ", why.number()),
     }
 }
 
 fn say_answer(answer: Answer) {
-    if let Answer::Refused(why) = answer {
-        say(b"query refused ", why.number());
-        return;
+    match answer {
+        Answer::Given(at) => say::pair(b"query gives rank ", at.rank, b", value ", at.value),
+        Answer::Refused(why) => say::line(b"query refused ", why.number()),
     }
-    let Answer::Given(at) = answer else {
-        return;
-    };
-    write(b"query gives rank ");
-    io::print_decimal(1, wide(at.rank));
-    say(b", value ", at.value);
 }
 
 // A line of block lengths.
 fn say_lens(lens: &[u32]) {
-    let mut i = 0;
-    write(b"blocks");
-    while i < lens.len() {
-        write(b" ");
-        io::print_decimal(1, wide(lens[i]));
-        i += 1;
-    }
-    write(b"\n");
+    say::list(b"blocks ", b" ", lens);
 }
 
-// A line for each entry.
-fn say_rows(rows: &[[u32; 3]]) {
-    let mut i = 0;
-    while i < rows.len() {
-        let row = rows[i];
-        io::print_decimal(1, wide(row[0]));
-        write(b" ");
-        io::print_decimal(1, wide(row[1]));
-        say(b" ", row[2]);
-        i += 1;
+// Inserts a value; a refusal leaves the store as it was.
+fn put(s: Store, rows: &mut [[u32; 3]], lens: &mut [u32], v: u32) -> Store {
+    match s.insert(rows, lens, v) {
+        Inserted::Taken(next) => next,
+        Inserted::Refused(_) => s,
     }
-}
-
-// Inserts all values, and stops at a refusal.
-fn fill(start: Store, rows: &mut [[u32; 3]], lens: &mut [u32], values: &[u32]) -> Store {
-    let mut s = start;
-    let mut i = 0;
-    while i < values.len() {
-        let answer = s.insert(rows, lens, values[i]);
-        let Inserted::Taken(next) = answer else {
-            return s;
-        };
-        s = next;
-        i += 1;
-    }
-    s
 }
 
 // Reading 9: error 1/2, block 2. The lent lists are not zero before opening.
 fn reading_9() {
     let mut rows = [[7u32; 3]; 7];
     let mut lens = [7u32; 7];
-    let values = [10u32, 20, 30, 40, 50, 45];
     let opened = Store::open(Fraction { num: 1, den: 2 }, 2, &mut rows, &mut lens);
     let Opened::Open(fresh) = opened else {
         return;
     };
     say_empty(fresh.is_empty(&rows, &lens));
     say_answer(fresh.query(&rows, &lens, Fraction { num: 1, den: 2 }));
-    let s = fill(fresh, &mut rows, &mut lens, &values);
-    say_rows(&rows);
+    let mut s = put(fresh, &mut rows, &mut lens, 10);
+    s = put(s, &mut rows, &mut lens, 20);
+    s = put(s, &mut rows, &mut lens, 30);
+    s = put(s, &mut rows, &mut lens, 40);
+    s = put(s, &mut rows, &mut lens, 50);
+    s = put(s, &mut rows, &mut lens, 45);
+    say::rows(b"", &rows);
     say_lens(&lens);
     say_len(s.len(&rows, &lens));
     say_empty(s.is_empty(&rows, &lens));
     say_answer(s.query(&rows, &lens, Fraction { num: 1, den: 2 }));
     say_answer(s.query(&rows, &lens, Fraction { num: 3, den: 2 }));
     say_compressed(s.compress(&mut rows, &mut lens));
-    say_rows(&rows);
+    say::rows(b"", &rows);
     say_lens(&lens);
 }
 
@@ -142,17 +100,18 @@ fn reading_9() {
 fn reading_10() {
     let mut rows = [[7u32; 3]; 4];
     let mut lens = [7u32; 4];
-    let values = [1u32, 2, 3];
     let opened = Store::open(Fraction { num: 1, den: 2 }, 2048, &mut rows, &mut lens);
     let Opened::Open(fresh) = opened else {
         return;
     };
-    let s = fill(fresh, &mut rows, &mut lens, &values);
+    let mut s = put(fresh, &mut rows, &mut lens, 1);
+    s = put(s, &mut rows, &mut lens, 2);
+    s = put(s, &mut rows, &mut lens, 3);
     let answer = s.compress(&mut rows, &mut lens);
     let Compressed::Done(t) = answer else {
         return;
     };
-    say_rows(&rows);
+    say::rows(b"", &rows);
     say_answer(t.query(&rows, &lens, Fraction { num: 1, den: 1 }));
 }
 
@@ -175,7 +134,7 @@ fn count() {
         return;
     };
     say_inserted(t.insert(&mut rows, &mut lens, 9));
-    say_rows(&rows);
+    say::rows(b"", &rows);
     say_lens(&lens);
 }
 
@@ -194,8 +153,8 @@ fn refusals() {
         return;
     };
     say_lens(&lens);
-    let values = [4u32, 5];
-    let s = fill(fresh, &mut rows, &mut lens, &values);
+    let mut s = put(fresh, &mut rows, &mut lens, 4);
+    s = put(s, &mut rows, &mut lens, 5);
     say_inserted(s.insert(&mut rows, &mut lens, 6));
     let shorter = [2u32; 1];
     say_len(s.len(&rows, &shorter));

@@ -1,11 +1,11 @@
 -- The laws of `below` and `upto`: how many members of a list are below a value, and how many are at most it.
 -- Assumes nothing.
-use mathlib.Core.Path.{_≡_, refl}
-use Prim.Native.Nat.{ℕ, zero, suc, _+_, _≤_, _<_}
+use mathlib.Core.Path.{_≡_, refl, sym, ap, _∙_}
+use Prim.Native.Nat.{ℕ, suc, _+_, _≤_, _<_}
 use mathlib.Core.Bool.{cond}
 use mathlib.Core.List.{List, [], _∷_, _++_}
 use native.Mathlib.Omega.{arith}
-use lib.ListN.{length}
+use lib.ListN.{length, take, drop, take-append-drop}
 use lib.Dec.{ltb, leb}
 use borrow.Author.Tests.{lt-ltb, le-ltb, le-leb, lt-leb}
 use Rattle.entries.proofs.Choose.{by-order}
@@ -77,9 +77,23 @@ pub below-mono : (X : List ℕ) (a b : ℕ) → a ≤ b → below X a ≤ below 
 below-mono [] a b h = omega arith
 below-mono (x ∷ xs) a b h = omega (arith, is-below-mono x a b h, below-mono xs a b h)
 
+-- at most v is the same as below the number after it
+one-upto : (x v : ℕ) → isUpto x v ≡ isBelow x (suc v)
+one-upto x v =
+    by-order v x
+    (λ h. omega (arith, upto-none x v h, below-none x (suc v) h))
+    (λ h. omega (arith, upto-one x v h, below-one x (suc v) (omega arith)))
+
+pub upto-is-below : (X : List ℕ) (v : ℕ) → upto X v ≡ below X (suc v)
+upto-is-below [] v = refl
+upto-is-below (x ∷ xs) v = omega (arith, one-upto x v, upto-is-below xs v)
+
 pub below-append : (X Y : List ℕ) (v : ℕ) → below (X ++ Y) v ≡ below X v + below Y v
 below-append [] Y v = omega arith
 below-append (x ∷ xs) Y v = omega (arith, below-append xs Y v)
+
+pub below-split : (X : List ℕ) (k v : ℕ) → below X v ≡ below (take k X) v + below (drop k X) v
+below-split X k v = sym (ap (λ (l : List ℕ). below l v) (take-append-drop k X)) ∙ below-append (take k X) (drop k X) v
 
 pub upto-append : (X Y : List ℕ) (v : ℕ) → upto (X ++ Y) v ≡ upto X v + upto Y v
 upto-append [] Y v = omega arith

@@ -1,6 +1,6 @@
 -- A sorted list of rows cut in two: what the search in one half says of the whole.
 -- Assumes nothing.
-use mathlib.Core.Path.{_≡_, sym, ap, _∙_}
+use mathlib.Core.Path.{_≡_, ap, _∙_}
 use Prim.Native.Nat.{ℕ, _+_, _-_, _≤_, _<_}
 use mathlib.Core.List.{List, []}
 use native.Mathlib.Omega.{arith}
@@ -9,14 +9,15 @@ use Rattle.entries.specs.Entry.{entriesOf, values}
 use Rattle.entries.specs.Place.{place}
 use Rattle.entries.specs.Ranks.{Rising}
 use Rattle.entries.proofs.Maps.{value-at, length-values, values-take, values-drop}
-use Rattle.entries.proofs.Places.{place-le, place-front, place-back, part-end, rising-take, rising-drop}
+use Rattle.entries.proofs.Parts.{part-sorted}
+use Rattle.entries.proofs.Places.{place-le, place-front, place-back, part-end}
 
 module _ (rows : List (List ℕ)) (k : ℕ) where
   pub front-rising : Rising 0 (values (entriesOf rows)) → Rising 0 (values (entriesOf (take k rows)))
-  front-rising r = rw (values-take k rows) (rising-take 0 (values (entriesOf rows)) k r)
+  front-rising r = part-sorted rows 0 k r
 
   pub back-rising : Rising 0 (values (entriesOf rows)) → Rising 0 (values (entriesOf (take (length rows - k) (drop k rows))))
-  back-rising r = rw (part-end rows k, values-drop k rows) (rising-drop 0 (values (entriesOf rows)) k r)
+  back-rising r = part-sorted rows k (length rows - k) r
 
   module _ (x : ℕ) (h : k < length rows) where
     -- where the value at k is greater, the place lies in the front half

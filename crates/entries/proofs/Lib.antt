@@ -1,7 +1,13 @@
 pub mod Choose
 pub mod Counting
+pub mod Guards
 pub mod Halves
+pub mod Layouts
 pub mod Maps
+pub mod Order
+pub mod Parts
 pub mod Places
+pub mod Puts
 pub mod Rooms
 pub mod Sorting
+pub mod Totals

@@ -1,6 +1,6 @@
 -- The laws of `place` and of `below` over sorted lists: what a scan, a halving by parts and a halving by bounds find.
 -- Assumes nothing.
-use mathlib.Core.Path.{_≡_, refl, sym, ap, _∙_}
+use mathlib.Core.Path.{_≡_, refl, ap}
 use Prim.Native.Nat.{ℕ, zero, suc, _+_, _-_, _≤_, _<_}
 use mathlib.Core.Bool.{cond}
 use mathlib.Core.List.{List, [], _∷_}
@@ -8,12 +8,12 @@ use native.Mathlib.Omega.{arith}
 use native.Mathlib.Numerals.{add-one}
 use borrow.Author.Tests.{lt-ltb, le-ltb}
 use lib.Dec.{ltb}
-use lib.ListN.{length, getD, take, drop, length-drop, take-append-drop, drop-of-length-le}
+use lib.ListN.{length, getD, take, drop, length-take, length-drop, drop-of-length-le}
 use lib.Seq.{take-all, drop-cons}
 use Rattle.entries.specs.Place.{place}
 use Rattle.entries.specs.Ranks.{Rising, below, upto}
-use Rattle.entries.proofs.Choose.{lt-cases}
-use Rattle.entries.proofs.Counting.{below-one, below-append, upto-one, upto-none}
+use Rattle.entries.proofs.Choose.{lt-cases, by-order}
+use Rattle.entries.proofs.Counting.{below-one, below-le-upto, upto-le-length, below-split, upto-one, upto-none}
 use Rattle.entries.proofs.Sorting.{none-below, none-upto}
 
 pub place-le : (x : ℕ) (vs : List ℕ) → place x vs ≤ length vs
@@ -109,8 +109,48 @@ none-behind vs k x h = rw (drop-of-length-le vs h)
 -- where the two meet
 pub smaller-met : (vs : List ℕ) (k j x : ℕ) → k ≡ j → below (take k vs) x ≡ k → below (drop j vs) x ≡ 0 → k ≡ below vs x
 smaller-met vs k j x e a b =
-    let q : below (drop k vs) x ≡ 0 = rw e b in
-    omega (arith, below-append (take k vs) (drop k vs) x, ap (λ (l : List ℕ). below l x) (take-append-drop k vs))
+    let q : below (drop k vs) x ≡ 0 = rw e b in omega (arith, below-split vs k x)
+
+-- the count of the smaller ones is the first place that is not smaller
+module _ (vs : List ℕ) (x : ℕ) (r : Rising 0 vs) where
+  pub below-before : (i : ℕ) → i < below vs x → getD vs i 0 < x
+  below-before i h =
+      let l : i < length vs = omega (arith, below-le-upto vs x, upto-le-length vs x) in
+      by-order (getD vs i 0) x (λ k. k)
+      (λ k. absurd (omega (
+        arith,
+        none-smaller 0 vs i x l r k,
+        below-split vs i x,
+        below-le-upto (take i vs) x,
+        upto-le-length (take i vs) x,
+        length-take i vs,
+      )))
+
+  pub below-there : below vs x < length vs → x ≤ getD vs (below vs x) 0
+  below-there h =
+      by-order (getD vs (below vs x) 0) x
+      (λ k. absurd (omega (arith, all-smaller 0 vs (below vs x) x h r k, below-split vs (below vs x + 1) x))) (λ k. k)
+
+-- so a search by halving: all before `low` are smaller than x, and none from `high` on
+pub record Narrowed (vs : List ℕ) (x low high : ℕ) : Type 0 where
+  pub ordered : low ≤ high
+  pub before : below (take low vs) x ≡ low
+  pub behind : below (drop high vs) x ≡ 0
+
+module _ (vs : List ℕ) (x : ℕ) where
+  pub narrowed-none : (high : ℕ) → length vs ≤ high → Narrowed vs x 0 high
+  narrowed-none high h = record { ordered = omega arith; before = refl; behind = none-behind vs high x h }
+
+  pub narrowed-met : (low high : ℕ) → Narrowed vs x low high → high ≤ low → low ≡ below vs x
+  narrowed-met low high n h = smaller-met vs low high x (omega arith) (n .before) (n .behind)
+
+  -- a look at the value at m, between the two
+  module _ (low high m : ℕ) (n : Narrowed vs x low high) (r : Rising 0 vs) (h : m < length vs) where
+    pub narrowed-up : m < high → getD vs m 0 < x → Narrowed vs x (m + 1) high
+    narrowed-up b g = record { ordered = omega arith; before = all-smaller 0 vs m x h r g; behind = n .behind }
+
+    pub narrowed-down : low ≤ m → x ≤ getD vs m 0 → Narrowed vs x low m
+    narrowed-down b g = record { ordered = b; before = n .before; behind = none-smaller 0 vs m x h r g }
 
 -- the place is the count of those at most x
 pub place-counts : (low x : ℕ) (vs : List ℕ) → Rising low vs → place x vs ≡ upto vs x

@@ -1,14 +1,14 @@
 -- The bridge from counts to ranks: where at most `below X v` members come before and `upto X v` reach it, v stands at that rank of sorted X.
 -- Assumes nothing.
-use mathlib.Core.Path.{_≡_, refl, sym, ap, _∙_}
+use mathlib.Core.Path.{_≡_, refl, ap}
 use Prim.Native.Nat.{ℕ, zero, suc, _+_, _-_, _≤_, _<_}
-use mathlib.Core.List.{List, [], _∷_, _++_}
+use mathlib.Core.List.{List, [], _∷_}
 use native.Mathlib.Omega.{arith}
 use lib.ListN.{length, getD}
-use lib.Dec.{ltb, leb}
 use Rattle.entries.proofs.Choose.{lt-cases, by-order}
 use Rattle.entries.specs.Ranks.{sortIn, sort, Rising, StandsAt, below, upto, Member, Sorts}
-use Rattle.entries.proofs.Counting.{isBelow, isUpto, below-one, below-none, upto-one, upto-none, below-le-upto, upto-le-length}
+use Rattle.entries.proofs.Counting.{isBelow, isUpto, below-one, below-none, upto-one, upto-none}
+use Rattle.entries.proofs.Counting.{is-below-le-upto, below-le-upto, upto-le-length}
 
 -- sorting keeps the counts and the length, and sorts
 
@@ -123,3 +123,9 @@ counted-member (x ∷ xs) v h =
 
 pub stands-member : (X : List ℕ) (v k : ℕ) → StandsAt X k v → Member X v
 stands-member X v k s = counted-member X v (omega (arith, stands-counts X v k s))
+
+-- a member is at most itself, and not below itself
+pub member-counted : (X : List ℕ) (v i : ℕ) → i < length X → getD X i 0 ≡ v → below X v < upto X v
+member-counted [] v i h e = absurd (omega arith)
+member-counted (x ∷ xs) v zero h e = omega (arith, below-none x v (omega arith), upto-one x v (omega arith), below-le-upto xs v)
+member-counted (x ∷ xs) v (suc i) h e = omega (arith, is-below-le-upto x v, member-counted xs v i (omega arith) e)

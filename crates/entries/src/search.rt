@@ -1,9 +1,9 @@
 // Where a value goes in a sorted list.
+use fraction::wide;
 ghost use mathlib.Core.Path.{_≡_};
-ghost use Prim.Native.Nat.{_≤_};
 ghost use Rattle.entries.specs.Entry.{entriesOf, values};
 ghost use Rattle.entries.specs.Place.{place};
-ghost use Rattle.entries.specs.Ranks.{Rising, below};
+ghost use Rattle.entries.specs.Ranks.{Rising, below, upto};
 
 // The first place whose value is greater than x, else the end: every place is looked at.
 pub fn scan(rows: &[[u32; 3]], x: u32) -> usize
@@ -53,8 +53,8 @@ pub fn smaller(rows: &[[u32; 3]], x: u32) -> usize
     low
 }
 
-// The same of a sorted list of numbers.
-pub fn smaller_numbers(s: &[u32], x: u32) -> usize
+// The same of a sorted list of numbers. x has 64 bits, so that it can be one more than the largest of them.
+fn smaller_than(s: &[u32], x: u64) -> usize
     requires { ⌜ Rising 0 (now s) ⌝ }
     ensures { λ r. ⌜ r ≡ below (now (s .entry)) x ⌝ }
 {
@@ -62,11 +62,27 @@ pub fn smaller_numbers(s: &[u32], x: u32) -> usize
     let mut high = s.len();
     while low < high {
         let middle = low + (high - low) / 2;
-        if s[middle] < x {
+        if wide(s[middle]) < x {
             low = middle + 1;
         } else {
             high = middle;
         }
     }
     low
+}
+
+// How many numbers of a sorted list are smaller than x.
+pub fn smaller_numbers(s: &[u32], x: u32) -> usize
+    requires { ⌜ Rising 0 (now s) ⌝ }
+    ensures { λ r. ⌜ r ≡ below (now (s .entry)) x ⌝ }
+{
+    smaller_than(s, wide(x))
+}
+
+// How many numbers of a sorted list are at most x: those smaller than one more.
+pub fn up_to(s: &[u32], x: u32) -> usize
+    requires { ⌜ Rising 0 (now s) ⌝ }
+    ensures { λ r. ⌜ r ≡ upto (now (s .entry)) x ⌝ }
+{
+    smaller_than(s, wide(x) + 1)
 }

@@ -69,6 +69,12 @@ inv-le f x h =
     let b : f .num * (2 * x) ≤ f .den * (2 * x) = mul-le-mul-right (2 * x) (phi-facts f (error-facts f h .0) .2) in
     max-le (omega arith) (le-trans (div-le-of-le-mul (f .den) {n = 2 * x} (omega arith)) (omega arith))
 
+-- inv at q·n of an allowed error and an allowed q is at most 2n + 1
+pub inv-at-le : (f q : Fraction) (n : ℕ) → isError f ≡ true → isPhi q ≡ true → invAt f q n ≤ 2 * n + 1
+inv-at-le f q n h p =
+    let both : f .num * q .num ≤ f .den * q .den = mul-le-mul (phi-facts f (error-facts f h .0) .2) (phi-facts q p .2) in
+    max-le (omega arith) (le-trans (div-le-of-le-mul (f .den * q .den) {n = 2 * n} (omega (arith, mul-le-mul-right (2 * n) both))) (omega arith))
+
 -- inv of an allowed error at a 32-bit x fits 33 bits
 pub inv-small : (f : Fraction) (x : ℕ) → isError f ≡ true → x < 2 ^ 32 → inv f x < 2 ^ 33
 inv-small f x h s = omega (arith, inv-le f x h)

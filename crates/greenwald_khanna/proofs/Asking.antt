@@ -11,6 +11,7 @@ use Rattle.entries.specs.declared.Entry.{Entry}
 use Rattle.entries.specs.Entry.{entryOf, entriesOf}
 use Rattle.entries.proofs.Maps.{map-take}
 use Rattle.entries.proofs.Choose.{by-order}
+use Rattle.entries.proofs.Guards.{differ}
 use Rattle.fraction.specs.declared.Fraction.{Fraction}
 use Rattle.fraction.specs.Allowed.{isPhi, isEpsilon}
 use Rattle.fraction.specs.Products.{floorMul, eOf}
@@ -26,7 +27,7 @@ use Rattle.greenwald_khanna.specs.Answers.{valueOf, quantiled}
 use Rattle.greenwald_khanna.specs.Demand3.{Answered}
 use Rattle.greenwald_khanna.specs.Limits.{slotsOk}
 use Rattle.greenwald_khanna.specs.Sound.{sound, stateOf}
-use Rattle.greenwald_khanna.proofs.Cases.{differ, value-passes, passes-value}
+use Rattle.greenwald_khanna.proofs.Cases.{value-passes, passes-value}
 use Rattle.greenwald_khanna.proofs.Sounds.{Facts, sound-facts}
 
 none-looked-up : (limit : ℕ) (es : List Entry) → length es ≤ 0 → lookUp limit es ≡ none

@@ -1,82 +1,39 @@
 -- Each refusal is given exactly when its test fails and the tests before it pass.
 -- Assumes nothing.
-use mathlib.Core.Path.{_≡_, refl, ap, _∙_}
+use mathlib.Core.Path.{_≡_, ap, _∙_}
 use Prim.Native.Nat.{ℕ, _<_}
-use mathlib.Core.Bool.{Bool, true, false, cond, not}
+use mathlib.Core.Bool.{Bool, true, not}
 use mathlib.Core.Option.{Option, none, some}
 use mathlib.Core.List.{List}
 use native.Mathlib.Omega.{arith}
 use borrow.Author.Tests.{leb-true, leb-false, le-leb, lt-leb}
 use lib.Dec.{leb}
 use lib.ListN.{length}
-use Rattle.refusal.specs.declared.Refusal.the-variants.{Slots, Epsilon, Damaged, Count, Full, Phi, Empty}
+use Rattle.refusal.specs.declared.Refusal.{Refusal}
+use Rattle.refusal.specs.declared.Refusal.the-variants.{Phi, Empty}
 use Rattle.fraction.specs.declared.Fraction.{Fraction}
 use Rattle.fraction.specs.Allowed.{isEpsilon, isPhi}
 use Rattle.entries.specs.declared.Entry.{Entry}
 use Rattle.entries.proofs.Choose.{by-order}
+use Rattle.entries.proofs.Guards.{differ, refused, passed, unmet, met, neither, both-passed, first-refused, second-refused}
 use Rattle.greenwald_khanna_theory.specs.State.{quantile}
 use Rattle.greenwald_khanna.specs.declared.Stream.{Stream}
-use Rattle.greenwald_khanna.specs.declared.Opened.the-variants as opening
-use Rattle.greenwald_khanna.specs.declared.Inserted.the-variants as inserting
-use Rattle.greenwald_khanna.specs.declared.Answer.{Answer}
 use Rattle.greenwald_khanna.specs.declared.Answer.the-variants.{Value, Refused}
 use Rattle.greenwald_khanna.specs.Answers.{opened, after, streamOf, inserted, valueOf, quantiled, told}
 use Rattle.greenwald_khanna.specs.Limits.{observations, slotsOk}
 use Rattle.greenwald_khanna.specs.Refusals.{OpenExactly, InsertExactly, QuantileExactly, ToldExactly}
 use Rattle.greenwald_khanna.specs.Sound.{sound, stateOf}
 use Rattle.greenwald_khanna.proofs.Asking.{quantile-none, quantile-some}
-use Rattle.greenwald_khanna.proofs.Cases.{differ, freshStream, openTested, open-passes, tested, taken-passes, passes-taken, askTested, value-passes, passes-value}
+use Rattle.greenwald_khanna.proofs.Cases.{freshStream, open-passes, taken-passes, passes-taken, value-passes, passes-value}
 use Rattle.greenwald_khanna.proofs.Sounds.{sound-facts}
-
--- opening
-
-open-slots : (a b : Bool) (s : Stream) → openTested a b s ≡ opening.Refused Slots → a ≡ false
-open-slots false b s e = refl
-open-slots true false s e = absurd (differ (cc))
-open-slots true true s e = absurd (differ (cc))
-
-open-epsilon : (a b : Bool) (s : Stream) → openTested a b s ≡ opening.Refused Epsilon → (a ≡ true) × (b ≡ false)
-open-epsilon false b s e = absurd (differ (cc))
-open-epsilon true false s e = (refl, refl)
-open-epsilon true true s e = absurd (differ (cc))
 
 pub open-exactly : (ε : Fraction) (list : List Entry) → OpenExactly ε list
 unfolding opened
 open-exactly ε list = record {
-  slots = (open-slots (slotsOk (length list)) (isEpsilon ε) (freshStream ε), λ h. rw h);
-  epsilon = (open-epsilon (slotsOk (length list)) (isEpsilon ε) (freshStream ε), λ h. rw (h .0, h .1));
+  slots = first-refused (slotsOk (length list)) (isEpsilon ε) (λ e. differ (cc)) (λ a b e. differ (cc));
+  epsilon = second-refused (slotsOk (length list)) (isEpsilon ε) (λ e. differ (cc)) (λ a b e. differ (cc));
   opens = (λ h. let t = open-passes ε list (h .0) (h .1) in (t .0, t .1), λ h. (freshStream ε, rw (h .0, h .1)));
 }
-
--- inserting
-
-insert-slots : (a b c d : Bool) (s : Stream) → tested a b c d s ≡ inserting.Refused Slots → a ≡ false
-insert-slots false b c d s e = refl
-insert-slots true false c d s e = absurd (differ (cc))
-insert-slots true true true d s e = absurd (differ (cc))
-insert-slots true true false true s e = absurd (differ (cc))
-insert-slots true true false false s e = absurd (differ (cc))
-
-insert-damaged : (a b c d : Bool) (s : Stream) → tested a b c d s ≡ inserting.Refused Damaged → (a ≡ true) × (b ≡ false)
-insert-damaged false b c d s e = absurd (differ (cc))
-insert-damaged true false c d s e = (refl, refl)
-insert-damaged true true true d s e = absurd (differ (cc))
-insert-damaged true true false true s e = absurd (differ (cc))
-insert-damaged true true false false s e = absurd (differ (cc))
-
-insert-count : (a b c d : Bool) (s : Stream) → tested a b c d s ≡ inserting.Refused Count → (a ≡ true) × (b ≡ true) × (c ≡ true)
-insert-count false b c d s e = absurd (differ (cc))
-insert-count true false c d s e = absurd (differ (cc))
-insert-count true true true d s e = (refl, refl, refl)
-insert-count true true false true s e = absurd (differ (cc))
-insert-count true true false false s e = absurd (differ (cc))
-
-insert-full : (a b c d : Bool) (s : Stream) → tested a b c d s ≡ inserting.Refused Full → (a ≡ true) × (b ≡ true) × (c ≡ false) × (d ≡ true)
-insert-full false b c d s e = absurd (differ (cc))
-insert-full true false c d s e = absurd (differ (cc))
-insert-full true true true d s e = absurd (differ (cc))
-insert-full true true false true s e = (refl, refl, refl, refl)
-insert-full true true false false s e = absurd (differ (cc))
 
 pub insert-exactly : (st : Stream) (list : List Entry) (x : ℕ) → InsertExactly st list x
 unfolding inserted
@@ -85,58 +42,39 @@ insert-exactly st list x =
     let b : Bool = sound st list in
     let c : Bool = leb observations (st .n) in
     let d : Bool = leb (length list) (st .held) in
-    let s : Stream = streamOf (st .epsilon) (after st list x) in
     record {
-      slots = (insert-slots a b c d s, λ h. rw h);
-      damaged = (insert-damaged a b c d s, λ h. rw (h .0, h .1));
+      slots = first-refused a b (λ e. differ (cc)) (λ _ _. neither c (λ e. differ (cc)) (neither d (λ e. differ (cc)) (λ e. differ (cc))));
+      damaged = second-refused a b (λ e. differ (cc)) (λ _ _. neither c (λ e. differ (cc)) (neither d (λ e. differ (cc)) (λ e. differ (cc))));
       count = (
         λ e.
-            let t = insert-count a b c d s e in
-            (t .0, t .1, omega (arith, sound-facts st list (t .1) .count, leb-true observations (st .n) (t .2))),
+            let t = both-passed a b e (λ z. differ (cc)) (λ z. differ (cc)) in
+            let k = refused c (t .2) (neither d (λ z. differ (cc)) (λ z. differ (cc))) in
+            (t .0, t .1, omega (arith, sound-facts st list (t .1) .count, leb-true observations (st .n) k)),
         λ h. rw (h .0, h .1, le-leb observations (st .n) (omega arith)),
       );
       full = (
         λ e.
-            let t = insert-full a b c d s e in (
+            let t = both-passed a b e (λ z. differ (cc)) (λ z. differ (cc)) in
+            let k = passed c (t .2) (λ z. differ (cc)) in
+            let l = refused d (k .1) (λ z. differ (cc)) in (
               t .0,
               t .1,
-              omega (arith, leb-false observations (st .n) (t .2)),
-              omega (arith, sound-facts st list (t .1) .room, leb-true (length list) (st .held) (t .3)),
+              leb-false observations (st .n) (k .0),
+              omega (arith, sound-facts st list (t .1) .room, leb-true (length list) (st .held) l),
             ),
         λ h. rw (h .0, h .1, lt-leb observations (st .n) (omega arith), le-leb (length list) (st .held) (omega arith)),
       );
-      taken = (λ h. taken-passes st list x (h .0) (h .1) .0, λ h. (s, passes-taken st list x h));
+      taken = (λ h. taken-passes st list x (h .0) (h .1) .0, λ h. (streamOf (st .epsilon) (after st list x), passes-taken st list x h));
     }
 
--- asking
+-- a value is found, or EMPTY is the answer
+value-apart : (o : Option ℕ) (why : Refusal) → (Empty ≡ why → ⊥) → valueOf o ≡ Refused why → ⊥
+value-apart none why n e = n (cc)
+value-apart (some v) why n e = differ (cc)
 
-ask-slots : (a b c : Bool) (o : Option ℕ) → askTested a b c (valueOf o) ≡ Refused Slots → a ≡ false
-ask-slots false b c o e = refl
-ask-slots true false c o e = absurd (differ (cc))
-ask-slots true true false o e = absurd (differ (cc))
-ask-slots true true true none e = absurd (differ (cc))
-ask-slots true true true (some v) e = absurd (differ (cc))
-
-ask-damaged : (a b c : Bool) (o : Option ℕ) → askTested a b c (valueOf o) ≡ Refused Damaged → (a ≡ true) × (b ≡ false)
-ask-damaged false b c o e = absurd (differ (cc))
-ask-damaged true false c o e = (refl, refl)
-ask-damaged true true false o e = absurd (differ (cc))
-ask-damaged true true true none e = absurd (differ (cc))
-ask-damaged true true true (some v) e = absurd (differ (cc))
-
-ask-phi : (a b c : Bool) (o : Option ℕ) → askTested a b c (valueOf o) ≡ Refused Phi → (a ≡ true) × (b ≡ true) × (c ≡ false)
-ask-phi false b c o e = absurd (differ (cc))
-ask-phi true false c o e = absurd (differ (cc))
-ask-phi true true false o e = (refl, refl, refl)
-ask-phi true true true none e = absurd (differ (cc))
-ask-phi true true true (some v) e = absurd (differ (cc))
-
-ask-empty : (a b c : Bool) (o : Option ℕ) → askTested a b c (valueOf o) ≡ Refused Empty → (a ≡ true) × (b ≡ true) × (c ≡ true) × (o ≡ none)
-ask-empty false b c o e = absurd (differ (cc))
-ask-empty true false c o e = absurd (differ (cc))
-ask-empty true true false o e = absurd (differ (cc))
-ask-empty true true true none e = (refl, refl, refl, refl)
-ask-empty true true true (some v) e = absurd (differ (cc))
+value-none : (o : Option ℕ) → valueOf o ≡ Refused Empty → o ≡ none
+value-none none e = cc
+value-none (some v) e = absurd (differ (cc))
 
 -- no value is found exactly when nothing was accepted
 nothing : (st : Stream) (list : List Entry) (φ : Fraction) → sound st list ≡ true → isPhi φ ≡ true
@@ -167,13 +105,19 @@ quantile-exactly st list φ =
     let c : Bool = isPhi φ in
     let o : Option ℕ = quantile (st .epsilon) (stateOf st list) φ in
     record {
-      slots = (ask-slots a b c o, λ h. rw h);
-      damaged = (ask-damaged a b c o, λ h. rw (h .0, h .1));
-      phi = (ask-phi a b c o, λ h. rw (h .0, h .1, h .2));
+      slots = first-refused a b (λ e. differ (cc)) (λ _ _. neither (not c) (λ e. differ (cc)) (value-apart o _ (λ e. differ (cc))));
+      damaged = second-refused a b (λ e. differ (cc)) (λ _ _. neither (not c) (λ e. differ (cc)) (value-apart o _ (λ e. differ (cc))));
+      phi = (
+        λ e.
+            let t = both-passed a b e (λ z. differ (cc)) (λ z. differ (cc)) in
+            (t .0, t .1, unmet c (t .2) (value-apart o Phi (λ z. differ (cc)))),
+        λ h. rw (h .0, h .1, h .2),
+      );
       empty = (
         λ e.
-            let t = ask-empty a b c o e in
-            (t .0, t .1, t .2, nothing st list φ (t .1) (t .2) (t .3)),
+            let t = both-passed a b e (λ z. differ (cc)) (λ z. differ (cc)) in
+            let k = met c (t .2) (λ z. differ (cc)) in
+            (t .0, t .1, k .0, nothing st list φ (t .1) (k .0) (value-none o (k .1))),
         λ h. passes-value st list φ (h .0) (h .1) (h .2) ∙ ap valueOf (quantile-none (st .epsilon) (stateOf st list) φ (sound-facts st list (h .1) .entries) (omega arith)),
       );
       value = (
@@ -187,33 +131,13 @@ quantile-exactly st list φ =
       );
     }
 
--- telling
-
-abbrev tellTested : Bool → Bool → ℕ → Answer
-tellTested a b x = cond (not a) (Refused Slots) (cond (not b) (Refused Damaged) (Value x))
-
-tell-slots : (a b : Bool) (x : ℕ) → tellTested a b x ≡ Refused Slots → a ≡ false
-tell-slots false b x e = refl
-tell-slots true false x e = absurd (differ (cc))
-tell-slots true true x e = absurd (differ (cc))
-
-tell-damaged : (a b : Bool) (x : ℕ) → tellTested a b x ≡ Refused Damaged → (a ≡ true) × (b ≡ false)
-tell-damaged false b x e = absurd (differ (cc))
-tell-damaged true false x e = (refl, refl)
-tell-damaged true true x e = absurd (differ (cc))
-
-tell-value : (a b : Bool) (x : ℕ) → tellTested a b x ≡ Value x → (a ≡ true) × (b ≡ true)
-tell-value false b x e = absurd (differ (cc))
-tell-value true false x e = absurd (differ (cc))
-tell-value true true x e = (refl, refl)
-
 pub told-exactly : (st : Stream) (list : List Entry) (x : ℕ) → ToldExactly st list x
 unfolding told
 told-exactly st list x =
     let a : Bool = slotsOk (length list) in
     let b : Bool = sound st list in
     record {
-      slots = (tell-slots a b x, λ h. rw h);
-      damaged = (tell-damaged a b x, λ h. rw (h .0, h .1));
-      value = (tell-value a b x, λ h. rw (h .0, h .1));
+      slots = first-refused a b (λ e. differ (cc)) (λ _ _ e. differ (cc));
+      damaged = second-refused a b (λ e. differ (cc)) (λ _ _ e. differ (cc));
+      value = (λ e. let t = both-passed a b e (λ z. differ (cc)) (λ z. differ (cc)) in (t .0, t .1), λ h. rw (h .0, h .1));
     }

@@ -3,7 +3,7 @@
 use mathlib.Core.Path.{_≡_, refl, sym, ap, _∙_}
 use Prim.Native.Nat.{ℕ, suc, _+_, _-_, _%_, _≤_, _<_}
 use mathlib.Core.Bool.{true}
-use mathlib.Core.List.{List, [], _∷_, _++_, map-append}
+use mathlib.Core.List.{List, [], _∷_, _++_}
 use native.Mathlib.Omega.{arith}
 use borrow.Author.Tests.{eq-eqb, ne-eqb}
 use lib.ListN.{length, take, drop, length-map}
@@ -16,14 +16,14 @@ use Rattle.entries.specs.declared.Entry.{Entry}
 use Rattle.entries.specs.Entry.{entry, zeroEntry, entryOf, entriesOf, values}
 use Rattle.entries.specs.Lists.{putAt, layout}
 use Rattle.entries.specs.Place.{place}
-use Rattle.entries.proofs.Maps.{map-take, map-drop, map-putAt}
+use Rattle.entries.proofs.Layouts.{put-rows, layout-front, layout-room, layout-full, layout-again}
+use Rattle.entries.proofs.Maps.{map-take}
 use Rattle.greenwald_khanna_theory.specs.State.{State, grown, tidied, insert}
 use Rattle.greenwald_khanna_theory.specs.Summary.{newDelta, putIn, compress}
 use Rattle.greenwald_khanna_rows.specs.Compress.{CompressPost}
 use Rattle.greenwald_khanna.specs.declared.Stream.{Stream}
 use Rattle.greenwald_khanna.specs.Sound.{stateOf}
 use Rattle.greenwald_khanna.specs.Steps.{Holds}
-use Rattle.greenwald_khanna.proofs.Layouts.{layout-front, layout-holds, layout-behind}
 use Rattle.greenwald_khanna.proofs.Lengths.{compress-length, grown-length}
 
 -- the delta of a new entry
@@ -73,13 +73,11 @@ module _ (st : Stream) (rows : List (List ℕ)) (v pos delta : ℕ) (after : Lis
   pub grown-holds : Holds (st .epsilon) more (suc (st .held)) (entriesOf rows) (record { epsilon = st .epsilon; n = st .n + 1; held = st .held + 1 }) (entriesOf after)
   grown-holds =
       let size : length (more .entries) ≡ suc (st .held) = omega (arith, grown-length (st .epsilon) (stateOf st (entriesOf rows)) v, old-length) in
-      let none : suc (st .held) - length (more .entries) ≡ 0 = omega arith in
       record {
         stream = stream-eq (grown-count (st .epsilon) (stateOf st (entriesOf rows)) v) (omega arith);
         entries =
-            ap entriesOf ha
-            ∙ map-append entryOf (putAt pos (v ∷ 1 ∷ delta ∷ []) (take (st .held) rows)) (drop (suc (st .held)) rows)
-            ∙ rw (map-putAt entryOf pos (v ∷ 1 ∷ delta ∷ []) (take (st .held) rows), old-is, map-drop entryOf (suc (st .held)) rows, none, more-is);
+            put-rows pos (st .held) v 1 delta rows after ha
+            ∙ rw (← more-is) (layout-full zeroEntry (more .entries) (suc (st .held)) (entriesOf rows) size);
       }
 
 -- the second half: the entries compressed
@@ -141,10 +139,15 @@ module _ (st : Stream) (before : List Entry) (v : ℕ) (h : st .held < length be
       let held : mid .held ≡ suc (st .held) = ap (λ (s : Stream). s .held) (g .stream) ∙ first-length in
       let state : stateOf mid list ≡ more =
       rw (g .stream, g .entries) (ap (λ (es : List Entry). let s : State = record { n = more .n; entries = es } in s) (layout-front zeroEntry (more .entries) (suc (st .held)) before)) in
-      let behind : drop (suc (st .held)) list ≡ drop (suc (st .held)) before =
-      rw (g .entries) (layout-behind zeroEntry (more .entries) (suc (st .held)) before (omega (arith, first-length))) in
       let k2 : Holds ε (tidied ε more) (suc (st .held)) list last left = rw (e, state, held) at k in
-      rw yes (record { stream = k2 .stream; entries = k2 .entries ∙ rw behind })
+      rw yes (record {
+        stream = k2 .stream;
+        entries =
+            k2 .entries
+            ∙ rw (g .entries)
+            (layout-again zeroEntry (more .entries) (suc (st .held)) before (omega (arith, first-length)) (tidied ε more .entries)
+            (suc (st .held)) refl);
+      })
 
 -- between the halves the stream may be compressed
 pub grown-fits : (st : Stream) (rows : List (List ℕ)) (v : ℕ) (mid : Stream) (left : List (List ℕ)) → isEpsilon (st .epsilon) ≡ true → st .held < length rows
@@ -155,5 +158,5 @@ grown-fits st rows v mid left a h g =
     let e : mid .epsilon ≡ st .epsilon = ap (λ (s : Stream). s .epsilon) (g .stream) in
     let held : mid .held ≡ length (more .entries) = ap (λ (s : Stream). s .held) (g .stream) in (
       ap isEpsilon e ∙ a,
-      omega (arith, length-map left entryOf, ap length (g .entries), layout-holds zeroEntry (more .entries) (suc (st .held)) (entriesOf rows)),
+      omega (arith, length-map left entryOf, ap length (g .entries), layout-room zeroEntry (more .entries) (suc (st .held)) (entriesOf rows)),
     )

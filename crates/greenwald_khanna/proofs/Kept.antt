@@ -10,6 +10,7 @@ use lib.Seq.{length-take-le}
 use Rattle.entries.specs.declared.Entry.{Entry}
 use Rattle.entries.specs.Entry.{zeroEntry}
 use Rattle.entries.specs.Lists.{layout}
+use Rattle.entries.proofs.Layouts.{layout-front, layout-room, layout-length}
 use Rattle.fraction.specs.declared.Fraction.{Fraction}
 use Rattle.greenwald_khanna_theory.specs.Explains.{Explains}
 use Rattle.greenwald_khanna_theory.specs.Promises.{Sound, InsertKeeps}
@@ -21,7 +22,6 @@ use Rattle.greenwald_khanna.specs.Answers.{after, streamOf, inserted, in
 use Rattle.greenwald_khanna.specs.Sound.{sound, stateOf}
 use Rattle.greenwald_khanna.specs.Steps.{Accepts}
 use Rattle.greenwald_khanna.proofs.Cases.{taken-passes, taken-list}
-use Rattle.greenwald_khanna.proofs.Layouts.{layout-front, layout-holds, layout-length}
 use Rattle.greenwald_khanna.proofs.Lengths.{insert-length, insert-count}
 use Rattle.greenwald_khanna.proofs.Sounds.{Facts, sound-facts, facts-sound}
 
@@ -56,7 +56,7 @@ module _ (st : Stream) (before : List Entry) (x : ℕ) (p : Accepts st before) w
         sound-is = facts-sound (streamOf (st .epsilon) new) left (record {
           epsilon = f .epsilon;
           count = omega (arith, insert-count (st .epsilon) b x, p .count);
-          room = layout-holds zeroEntry (new .entries) (suc (st .held)) before;
+          room = layout-room zeroEntry (new .entries) (suc (st .held)) before;
           entries = subst (λ (s : State). Sound (st .epsilon) s) (sym back) (k .0);
         });
         slots = layout-length zeroEntry (new .entries) (suc (st .held)) before most (p .room);

@@ -5,12 +5,12 @@ use Prim.Native.Nat.{ℕ, suc, _+_, _≤_, _%_}
 use mathlib.Core.List.{List, [], _∷_}
 use native.Mathlib.Omega.{arith}
 use lib.Dec.{eqb}
-use lib.ListN.{length, take, drop, length-append, length-take, length-drop}
+use lib.ListN.{length}
 use Rattle.entries.specs.declared.Entry.{Entry}
 use Rattle.entries.specs.Entry.{entry, values}
-use Rattle.entries.specs.Lists.{putAt}
 use Rattle.entries.specs.Place.{place}
 use Rattle.entries.proofs.Choose.{cond-cases}
+use Rattle.entries.proofs.Layouts.{length-put}
 use Rattle.fraction.specs.declared.Fraction.{Fraction}
 use Rattle.fraction.specs.Products.{pOf, period}
 use Rattle.greenwald_khanna_theory.specs.State.{State, grown, tidied, insert}
@@ -32,13 +32,11 @@ unfolding compress
 compress-length p [] = omega arith
 compress-length p (f ∷ es) = omega (arith, merged-length p es)
 
-pub put-length : {A : Type 0} (k : ℕ) (e : A) (es : List A) → length (putAt k e es) ≡ suc (length es)
-put-length k e es = omega (arith, length-append (take k es) (e ∷ drop k es), length-take k es, length-drop k es)
-
 pub grown-length : (ε : Fraction) (s : State) (x : ℕ) → length (grown ε s x .entries) ≡ suc (length (s .entries))
 unfolding grown putIn
 grown-length ε s x =
-    put-length (place x (values (s .entries))) (entry x 1 (newDelta (pOf ε (s .n)) (place x (values (s .entries))) (length (s .entries)))) (s .entries)
+    length-put (place x (values (s .entries))) (entry x 1 (newDelta (pOf ε (s .n)) (place x (values (s .entries))) (length (s .entries))))
+    (s .entries)
 
 pub tidied-length : (ε : Fraction) (s : State) → length (tidied ε s .entries) ≤ length (s .entries)
 unfolding tidied

@@ -1,12 +1,11 @@
+pub mod Abacus
 pub mod Asking
 pub mod Bounds
 pub mod Cases
-pub mod Computed
 pub mod Exactly
 pub mod Fresh
 pub mod Halves
 pub mod Kept
-pub mod Layouts
 pub mod Lengths
 pub mod Outcomes
 pub mod Returns

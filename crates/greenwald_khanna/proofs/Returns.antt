@@ -1,13 +1,12 @@
 -- What the public calls return meets their contracts: the answer and the list by their definitions, and with them demand 3 call by call.
 -- Assumes nothing.
 use mathlib.Core.Path.{_≡_, refl, sym, ap, _∙_}
-use Prim.Native.Nat.{ℕ, suc, _-_, _≤_, _<_}
+use Prim.Native.Nat.{ℕ, suc, _≤_, _<_}
 use mathlib.Core.Bool.{Bool, true, false}
 use mathlib.Core.Option.{some}
-use mathlib.Core.List.{List, append-nil}
-use native.Mathlib.Omega.{arith}
+use mathlib.Core.List.{List}
 use borrow.Author.Tests.{le-leb, lt-leb}
-use lib.ListN.{length, replicate, length-map, drop-of-length-le}
+use lib.ListN.{length, replicate, length-map}
 use Rattle.refusal.specs.declared.Refusal.{Refusal}
 use Rattle.fraction.specs.declared.Fraction.{Fraction}
 use Rattle.fraction.specs.Allowed.{isEpsilon, isPhi, within}
@@ -17,6 +16,8 @@ use Rattle.greenwald_khanna_theory.specs.State.{answerAt, quantile}
 use Rattle.entries.specs.declared.Entry.{Entry}
 use Rattle.entries.specs.Entry.{zeroEntry, rowOf, entryOf, entriesOf}
 use Rattle.entries.specs.Lists.{cleared}
+use Rattle.entries.proofs.Guards.{differ}
+use Rattle.entries.proofs.Layouts.{cleared-all}
 use Rattle.entries.proofs.Maps.{map-cleared}
 use Rattle.greenwald_khanna.specs.declared.Stream.{Stream}
 use Rattle.greenwald_khanna.specs.declared.Opened.the-variants as opening
@@ -29,7 +30,7 @@ use Rattle.greenwald_khanna.specs.Posts.{OpenPost, InsertPost, QuantileP
 use Rattle.greenwald_khanna.specs.Sound.{sound, stateOf}
 use Rattle.greenwald_khanna.specs.Steps.{Accepts, Holds}
 use Rattle.greenwald_khanna.proofs.Asking.{value-within}
-use Rattle.greenwald_khanna.proofs.Cases.{differ, freshStream, passes-taken, taken-list, passes-value}
+use Rattle.greenwald_khanna.proofs.Cases.{freshStream, passes-taken, taken-list, passes-value}
 use Rattle.greenwald_khanna.proofs.Fresh.{opened-fresh}
 use Rattle.greenwald_khanna.proofs.Kept.{inserted-kept}
 use Rattle.greenwald_khanna.proofs.Sounds.{sound-facts}
@@ -60,10 +61,9 @@ module _ (ε : Fraction) (before : List Entry) where
 -- all rows cleared are zero entries
 pub all-cleared : (rows left : List (List ℕ)) → left ≡ cleared (rowOf zeroEntry) 0 (length rows) rows → entriesOf left ≡ replicate (length (entriesOf rows)) zeroEntry
 all-cleared rows left e =
-    let q : length (entriesOf rows) - 0 ≡ length (entriesOf rows) = omega arith in
     ap entriesOf e
     ∙ map-cleared entryOf (rowOf zeroEntry) 0 (length rows) rows
-    ∙ rw (← length-map rows entryOf, q, drop-of-length-le (entriesOf rows) {i = length (entriesOf rows)} (omega arith)) (append-nil (replicate (length (entriesOf rows)) zeroEntry))
+    ∙ rw (← length-map rows entryOf) (cleared-all zeroEntry (entriesOf rows))
 
 -- inserting
 module _ (st : Stream) (before : List Entry) (x : ℕ) where

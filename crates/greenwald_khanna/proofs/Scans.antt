@@ -6,6 +6,7 @@ use mathlib.Core.List.{List}
 use Rattle.refusal.specs.declared.Refusal.{Refusal}
 use Rattle.fraction.specs.declared.Fraction.{Fraction}
 use Rattle.entries.specs.declared.Entry.{Entry}
+use Rattle.entries.proofs.Guards.{differ}
 use Rattle.greenwald_khanna.specs.declared.Stream.{Stream}
 use Rattle.greenwald_khanna.specs.declared.Opened.{Opened}
 use Rattle.greenwald_khanna.specs.declared.Opened.the-variants as opening
@@ -16,7 +17,6 @@ use Rattle.greenwald_khanna.specs.Demand3.{Given, given, run, asked, Dem
 use Rattle.greenwald_khanna.specs.Floor.{FloorPost}
 use Rattle.greenwald_khanna.specs.Posts.{OpenPost, QuantilePost}
 use Rattle.greenwald_khanna.proofs.Bounds.{demand3}
-use Rattle.greenwald_khanna.proofs.Cases.{differ}
 
 module _ (ε : Fraction) (before : List Entry) (xs : List ℕ) (φ : Fraction) (o : Opened) (first : List Entry) (p : OpenPost ε before o first) where
   pub floor-refused : (why : Refusal) → o ≡ opening.Refused why → FloorPost ε before xs φ (Refused why) first

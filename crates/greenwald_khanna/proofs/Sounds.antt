@@ -15,6 +15,7 @@ use Rattle.fraction.proofs.Tests.{within-true}
 use Rattle.entries.specs.declared.Entry.{Entry}
 use Rattle.entries.specs.Entry.{entryOf, entriesOf, values, sumG}
 use Rattle.entries.specs.Ranks.{Rising}
+use Rattle.entries.proofs.Guards.{both}
 use Rattle.entries.proofs.Maps.{map-take}
 use Rattle.greenwald_khanna_theory.specs.Promises.{Sound, HeldWithin}
 use Rattle.greenwald_khanna_theory.specs.Sound.{soundEntries}
@@ -81,9 +82,6 @@ pub record Facts (st : Stream) (list : List Entry) : Type 0 where
   pub count : st .n ≤ observations
   pub room : st .held ≤ length list
   pub entries : Sound (st .epsilon) (stateOf st list)
-
-both : (a b : Bool) → a && b ≡ true → (a ≡ true) × (b ≡ true)
-both a b h = and-eq-true-iff a b .0 h
 
 pub sound-facts : (st : Stream) (list : List Entry) → sound st list ≡ true → Facts st list
 unfolding sound

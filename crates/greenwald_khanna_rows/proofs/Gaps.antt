@@ -3,15 +3,15 @@
 use mathlib.Core.Path.{_≡_, refl, sym, ap, _∙_}
 use Prim.Native.Nat.{ℕ, zero, suc, _+_, _-_, _≤_, _<_}
 use mathlib.Core.List.{List, [], _∷_, map, map-append}
-use native.Mathlib.Nat.{zero-sub, sub-zero, suc-sub-suc}
 use native.Mathlib.Numerals.{add-one}
 use native.Mathlib.Omega.{arith}
 use lib.ListN.{length, getD, set, take, drop, length-drop, length-map}
-use lib.Seq.{getD-drop, drop-drop, take-nil, take-suc, paste, paste-suc, take-paste, drop-paste, slice, slice-cons, length-slice}
+use lib.Seq.{getD-drop, drop-drop, take-suc, paste, paste-suc, take-paste, drop-paste, slice, slice-cons, length-slice}
 use Rattle.entries.specs.declared.Entry.{Entry}
 use Rattle.entries.specs.Entry.{rowOf, entryOf, entriesOf, zeroEntry}
 use Rattle.entries.specs.Lists.{layout, cleared}
 use Rattle.entries.proofs.Maps.{map-take, map-drop, map-cleared}
+use Rattle.entries.proofs.Parts.{part-slice}
 use Rattle.greenwald_khanna_theory.specs.Summary.{merged, compress}
 use Rattle.greenwald_khanna_rows.specs.Compress.{at, MergedFrom, movedDown, CompressPost}
 
@@ -32,13 +32,6 @@ module _ {A : Type 0} (d : List A) (w : ℕ) (z : A) where
       → set s (1 + j) (getD s (w + j) z) ≡ paste d 1 (drop w d) (j + 1)
   moved-turn j s p h e = rw (e, unread j p h, add-one j) (paste-suc d 1 (drop w d) j z (omega arith) (omega (arith, length-drop w d)))
 
--- a part, by its length or by its end
-take-drop : {A : Type 0} (f t : ℕ) (l : List A) → take (t - f) (drop f l) ≡ slice f t l
-take-drop zero t l = rw sub-zero
-take-drop (suc f) zero l = rw zero-sub
-take-drop (suc f) (suc t) [] = take-nil (suc t - suc f)
-take-drop (suc f) (suc t) (x ∷ xs) = rw suc-sub-suc (take-drop f t xs)
-
 -- moving down, said of the entries
 map-moved : {A B : Type 0} (f : A → B) (w held : ℕ) (xs : List A) → map f (movedDown w held xs) ≡ movedDown w held (map f xs)
 map-moved f w held xs = simp (map-append, map-take, map-drop)
@@ -57,7 +50,8 @@ module _ (p held : ℕ) (es fs : List Entry) (w : ℕ) (h : 1 < held) (b : held 
 
   left : take (1 + (held - w)) (movedDown w held fs) ≡ compress p (take held es)
   left =
-      rw (take-paste fs 1 (drop w fs) (held - w) (omega (arith, z .same-length)) (omega (arith, length-drop w fs, z .same-length)), whole, head, take-drop w held fs)
+      let t = take-paste fs 1 (drop w fs) (held - w) (omega (arith, z .same-length)) (omega (arith, length-drop w fs, z .same-length)) in
+      rw (t, whole, head, part-slice w held fs)
 
   behind : drop held (movedDown w held fs) ≡ drop held es
   behind =

@@ -1,4 +1,3 @@
-pub mod Cells
 pub mod Gaps
 pub mod Passes
 pub mod Soundness

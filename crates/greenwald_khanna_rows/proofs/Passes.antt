@@ -3,23 +3,15 @@
 use mathlib.Core.Path.{_≡_, refl, sym, ap, _∙_}
 use Prim.Native.Nat.{ℕ, zero, suc, _-_, _≤_, _<_}
 use mathlib.Core.Bool.{Bool, true, false, cond}
-use mathlib.Core.List.{List, [], _∷_}
+use mathlib.Core.List.{List, _∷_}
 use native.Mathlib.Omega.{arith}
-use lib.ListN.{length, set, take, drop, length-set}
-use lib.Seq.{length-take-le, take-take, getD-take, take-set-le, drop-set-lt, take-set-lt, slice, slice-cons, slice-empty}
+use lib.ListN.{length, set, take, length-set}
+use lib.Seq.{take-take, getD-take, take-set-le, drop-set-lt, slice, slice-cons, slice-empty}
 use Rattle.entries.specs.declared.Entry.{Entry}
 use Rattle.entries.specs.Entry.{zeroEntry}
+use Rattle.entries.proofs.Parts.{slice-set}
 use Rattle.greenwald_khanna_theory.specs.Summary.{mergeable, step, merged}
 use Rattle.greenwald_khanna_rows.specs.Compress.{at, joined, TurnPost, MergedFrom}
-
--- a store at the head of a part
-drop-set : {A : Type 0} (l : List A) (w : ℕ) (m : A) → w < length l → drop w (set l w m) ≡ m ∷ drop (suc w) l
-drop-set [] w m h = absurd (omega arith)
-drop-set (x ∷ xs) zero m h = refl
-drop-set (x ∷ xs) (suc w) m h = drop-set xs w m (omega arith)
-
-slice-set : {A : Type 0} (l : List A) (w held : ℕ) (m : A) → w < held → held ≤ length l → slice w held (set l w m) ≡ m ∷ slice (suc w) held l
-slice-set l w held m h b = rw (take-set-lt held l w m h) (drop-set (take held l) w m (omega (arith, length-take-le held l b)))
 
 -- the pass starts at the last entry
 pub start : (p held : ℕ) (es : List Entry) → 1 < held → held ≤ length es → MergedFrom p held es (held - 1) (held - 1) es

@@ -13,8 +13,8 @@ use lib.ListN.{length, getD, drop, drop-of-length-le}
 use lib.Seq.{drop-cons}
 use Rattle.entries.specs.declared.Entry.{Entry}
 use Rattle.entries.specs.Entry.{entryOf, entriesOf, values, sumG}
+use Rattle.entries.proofs.Parts.{entryAt}
 use Rattle.greenwald_khanna_theory.specs.Sound.{neverFall, eachWithin, firstExact, lastExact, soundEntries}
-use Rattle.greenwald_khanna_rows.proofs.Cells.{entryAt}
 
 -- both ends
 abbrev pub ends : List (List ℕ) → Bool

@@ -11,9 +11,9 @@ use Rattle.fraction.specs.Band.{band}
 use Rattle.entries.specs.declared.Entry.{Entry}
 use Rattle.entries.specs.Entry.{entryOf, entriesOf}
 use Rattle.entries.proofs.Maps.{map-set, entry-at}
+use Rattle.entries.proofs.Parts.{entryAt}
 use Rattle.greenwald_khanna_theory.specs.Summary.{mergeable}
 use Rattle.greenwald_khanna_rows.specs.Compress.{at, joined, TurnPost}
-use Rattle.greenwald_khanna_rows.proofs.Cells.{entryAt}
 
 -- where the sum is below p the bands decide, else the entry stays
 pub bands-decide : (p : ℕ) (e nx : Entry) → e .g + nx .g + nx .delta < p → leb (band p (e .delta)) (band p (nx .delta)) ≡ mergeable p e nx

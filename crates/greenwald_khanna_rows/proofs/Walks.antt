@@ -10,8 +10,8 @@ use borrow.Author.Tests.{lt-ltb, le-ltb}
 use lib.ListN.{length, drop, drop-of-length-le}
 use lib.Seq.{drop-cons}
 use Rattle.entries.specs.Entry.{entriesOf}
+use Rattle.entries.proofs.Parts.{entryAt}
 use Rattle.greenwald_khanna_theory.specs.Walk.{walk, lookUp}
-use Rattle.greenwald_khanna_rows.proofs.Cells.{entryAt}
 
 module _ (limit : ℕ) where
   -- it starts behind the first row

@@ -1,3 +1,4 @@
+pub mod Abacus
 pub mod Answering
 pub mod Bound
 pub mod Counts

@@ -9,6 +9,7 @@ use borrow.Author.Tests.{leb-true, eqb-true, le-leb, eq-eqb}
 use Rattle.entries.specs.declared.Entry.{Entry}
 use Rattle.entries.specs.Entry.{values, sumG}
 use Rattle.entries.specs.Ranks.{Rising}
+use Rattle.entries.proofs.Guards.{both}
 use Rattle.greenwald_khanna_theory.specs.Sound.{neverFall, eachWithin, firstExact, lastExact, soundEntries}
 
 -- each entry has g at least 1, and g + delta at most p + 1
@@ -35,10 +36,7 @@ pub record Entries (p n : ℕ) (es : List Entry) : Type 0 where
   pub first : FirstExact es
   pub last : LastExact es
 
--- both parts of a conjunction, and back
-both : (a b : Bool) → a && b ≡ true → (a ≡ true) × (b ≡ true)
-both a b h = and-eq-true-iff a b .0 h
-
+-- a conjunction of two that hold
 pair : (a b : Bool) → a ≡ true → b ≡ true → a && b ≡ true
 pair a b h k = and-eq-true-iff a b .1 (h, k)
 

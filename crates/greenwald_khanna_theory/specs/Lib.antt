@@ -1,6 +1,7 @@
 pub mod Answered
 pub mod Explains
 pub mod Promises
+pub mod Readings
 pub mod Sound
 pub mod State
 pub mod Summary

@@ -14,6 +14,7 @@ use Rattle.entries.specs.Entry.{sumG}
 use Rattle.entries.specs.Ranks.{StandsAt}
 use Rattle.greenwald_khanna_theory.specs.Answered.{WithinRanks}
 use Rattle.greenwald_khanna_theory.specs.Explains.{Explains}
+use Rattle.greenwald_khanna_theory.specs.Readings.{Readings}
 use Rattle.greenwald_khanna_theory.specs.Sound.{soundEntries}
 use Rattle.greenwald_khanna_theory.specs.State.{State, fresh, tidied, insert, rank, answerAt, quantile}
 use Rattle.greenwald_khanna_theory.specs.Summary.{compress}
@@ -79,6 +80,7 @@ EndsAreExtremes =
     → StandsAt X 1 (f .v) × StandsAt X (length X) (lastValue (f .v) es)
 
 pub record Promises : Type 0 where
+  pub readings : Readings
   pub freshSound : FreshSound
   pub insertKeeps : InsertKeeps
   pub tidiedKeeps : TidiedKeeps

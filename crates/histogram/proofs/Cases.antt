@@ -1,34 +1,31 @@
 -- The cases of the calls' answers: which refusal stands, and what is known where none does.
 -- Assumes nothing.
 use mathlib.Core.Path.{_≡_, refl, sym, _∙_}
-use Prim.Native.Nat.{ℕ, suc, _-_, _≤_, _<_}
+use Prim.Native.Nat.{ℕ, suc, _≤_, _<_}
 use mathlib.Core.Bool.{Bool, true, false}
-use mathlib.Core.List.{List, append-nil}
+use mathlib.Core.List.{List}
 use native.Mathlib.Omega.{arith}
 use borrow.Author.Tests.{le-leb, lt-leb, lt-ltb, le-ltb, eqb-true, eq-eqb, ne-eqb}
 use lib.ListN.{length, replicate}
-use lib.Seq.{drop-length}
 use Rattle.refusal.specs.declared.Refusal.{Refusal}
 use Rattle.refusal.specs.declared.Refusal.the-variants.{Slots, Damaged, Count, BoundsEmpty, BoundsMany, BoundsOrder}
 use Rattle.entries.specs.Lists.{cleared}
+use Rattle.entries.specs.Order.{rising}
+use Rattle.entries.proofs.Layouts.{cleared-all}
+use Rattle.entries.proofs.Order.{rising-means}
+use Rattle.histogram_rows.specs.Bins.{counted}
 use Rattle.histogram.specs.declared.Histogram.{Histogram}
 use Rattle.histogram.specs.declared.Standing.{Standing}
 use Rattle.histogram.specs.declared.Standing.the-variants.{Fine, Refused}
 use Rattle.histogram.specs.declared.Opened.{Opened}
 use Rattle.histogram.specs.declared.Inserted.{Inserted}
-use Rattle.histogram.specs.Bounds.{bounds, rising}
-use Rattle.histogram.specs.Bins.{counted}
+use Rattle.histogram.specs.Bounds.{bounds}
 use Rattle.histogram.specs.State.{observations, largest, fresh, taken}
 use Rattle.histogram.specs.Sound.{Sound, sound}
 use Rattle.histogram.specs.Answers.{fits, openStanding, standing, insertStanding}
 use Rattle.histogram.specs.Contracts.{OpenPost, InsertPost}
-use Rattle.histogram.proofs.Order.{rising-means}
 use Rattle.histogram.proofs.Sounds.{sound-means}
 use Rattle.histogram.proofs.Keeping.{fresh-sound, taken-sound}
-
--- zeroing every place
-all-cleared : (cs : List ℕ) → cleared 0 0 (length cs) cs ≡ replicate (length cs) 0
-all-cleared cs = let o : length cs - 0 ≡ length cs = omega arith in rw (o, drop-length cs) (append-nil (replicate (length cs) 0))
 
 -- opening
 module _ (bs cs : List ℕ) where
@@ -57,7 +54,7 @@ module _ (bs cs : List ℕ) where
       → cs′ ≡ cleared 0 0 (length cs) cs → OpenPost bs cs (Opened.Open fresh) cs′
   fresh-open a b t e cs′ q =
       let f : openStanding bs cs ≡ Fine = fine-open a b t e in
-      let z : cs′ ≡ replicate (length cs) 0 = q ∙ all-cleared cs in
+      let z : cs′ ≡ replicate (length cs) 0 = q ∙ cleared-all 0 cs in
       record { answer = rw f; counts = rw f z; sound = rw z (fresh-sound bs (length cs) a b (rising-means 0 bs t)) }
 
 -- every other call
@@ -93,6 +90,9 @@ ready h bs cs e q = go (fits bs cs) (sound h bs cs) refl refl (sym e ∙ q)
 module _ (h : Histogram) (bs cs : List ℕ) where
   pub refused-insert : (v : ℕ) (why : Refusal) → insertStanding h bs cs ≡ Refused why → InsertPost h bs cs v (Inserted.Refused why) cs
   refused-insert v why e = record { answer = rw e; counts = rw e; sound = tt }
+
+  pub refused-first : (v : ℕ) (why : Refusal) → standing h bs cs ≡ Refused why → InsertPost h bs cs v (Inserted.Refused why) cs
+  refused-first v why e = refused-insert v why (rw e)
 
 module _ {h : Histogram} {bs cs : List ℕ} (s : Ready h bs cs) where
   pub late-insert : observations ≤ h .count → insertStanding h bs cs ≡ Refused Count

@@ -10,35 +10,34 @@ use lib.Dec.{eqb}
 use lib.ListN.{length, getD, set, take, replicate, length-append, length-set, length-replicate}
 use lib.Seq.{getD-set-same, getD-set-other, append-snoc}
 use Rattle.entries.specs.Ranks.{Rising, below, upto, Member}
+use Rattle.entries.specs.Total.{total}
 use Rattle.entries.proofs.Choose.{by-order}
-use Rattle.entries.proofs.Counting.{isBelow, isUpto, below-one, below-none, upto-one, upto-none, is-below-le-upto, below-le-upto, upto-more, upto-le-below, below-mono}
-use Rattle.histogram.specs.declared.Bound.the-variants.{Finite}
+use Rattle.entries.proofs.Counting.{isBelow, isUpto, below-one, below-none, upto-one, upto-none, upto-more, upto-le-below, below-mono}
+use Rattle.entries.proofs.Sorting.{member-counted}
+use Rattle.entries.proofs.Totals.{total-append, total-zeros, total-take}
+use Rattle.histogram_rows.specs.declared.Bound.the-variants.{Finite}
+use Rattle.histogram_rows.specs.Bounds.{binOf}
+use Rattle.histogram_rows.specs.Bins.{totalBelow, counted}
+use Rattle.histogram_rows.proofs.Binning.{bin-fits}
+use Rattle.histogram_rows.proofs.Choosing.{ending-finite, chosen-below}
 use Rattle.histogram.specs.declared.Sum.the-variants.{Some}
 use Rattle.histogram.specs.declared.Standing.the-variants.{Fine}
-use Rattle.histogram.specs.Bounds.{allowed, binOf}
-use Rattle.histogram.specs.Bins.{total, totalBelow, counted}
+use Rattle.histogram.specs.Bounds.{allowed}
 use Rattle.histogram.specs.State.{observations, largest, plus}
 use Rattle.histogram.specs.Answers.{insertStanding}
 use Rattle.histogram.specs.Runs.{Held, opened, afterInsert, filled, Words, sumOf, inBin, Tells}
 use Rattle.histogram.specs.Laws.{FilledTells}
-use Rattle.histogram.proofs.Choosing.{ending-finite, chosen-below}
-use Rattle.histogram.proofs.Totals.{total-append, total-zeros, total-take}
 use Rattle.histogram.proofs.Sounds.{allowed-means, sound-holds}
-use Rattle.histogram.proofs.Keeping.{fresh-sound, taken-sound, bin-fits}
+use Rattle.histogram.proofs.Keeping.{fresh-sound, taken-sound}
 use Rattle.histogram.proofs.Cases.{sound-fine}
-
--- a member is at most itself, and not below itself
-member-counted : (X : List ℕ) (v i : ℕ) → i < length X → getD X i 0 ≡ v → below X v < upto X v
-member-counted [] v i h e = absurd (omega arith)
-member-counted (x ∷ xs) v zero h e = omega (arith, below-none x v (omega arith), upto-one x v (omega arith), below-le-upto xs v)
-member-counted (x ∷ xs) v (suc i) h e = omega (arith, is-below-le-upto x v, member-counted xs v i (omega arith) e)
 
 -- a value's bin is one of those up to the bound u exactly if the value is at most u
 same-share : (bs : List ℕ) (u x : ℕ) → Member bs u → isBelow (binOf bs x) (upto bs u) ≡ isUpto x u
 same-share bs u x m =
     by-order u x
     (λ h. omega (arith, upto-none x u h, below-none (binOf bs x) (upto bs u) (upto-le-below bs u x h)))
-    (λ h. omega (arith, upto-one x u h, below-one (binOf bs x) (upto bs u) (omega (arith, below-mono bs x u h, member-counted bs u (m .0) (m .1) (m .2)))))
+    (λ h. let b : binOf bs x < upto bs u = omega (arith, below-mono bs x u h, member-counted bs u (m .0) (m .1) (m .2)) in
+    omega (arith, upto-one x u h, below-one (binOf bs x) (upto bs u) b))
 
 -- one more in one place, seen by a sum over the first places and by a place
 step-below : (k e : ℕ) → isBelow (suc k) (suc e) ≡ isBelow k e
@@ -78,7 +77,10 @@ tells-more bs X s x t w n =
     let k : ℕ = binOf bs x in
     let b : k < length cs = bin-fits bs cs x (t .fits) in
     let f : insertStanding (s .state) bs cs ≡ Fine =
-    rw (sound-fine (s .state) bs cs (t .fits) (sound-holds (s .state) bs cs (t .sound)), lt-ltb (s .state .count) observations (omega (arith, t .count))) in
+    rw (
+      sound-fine (s .state) bs cs (t .fits) (sound-holds (s .state) bs cs (t .sound)),
+      lt-ltb (s .state .count) observations (omega (arith, t .count)),
+    ) in
     let long : length (counted bs cs x) ≡ suc (length bs) = length-set cs k (suc (getD cs k 0)) ∙ t .fits in
     rw f (record {
       fits = long;
@@ -121,7 +123,13 @@ tells-nothing bs a =
       count = refl;
       sum = refl;
       bins = zeros-at n;
-      below = λ u m. omega (arith, below-is bs (replicate n 0) u (b .2) (length-replicate n 0), total-take (upto bs u) (replicate n 0), total-zeros n);
+      below = λ u m.
+          omega (
+            arith,
+            below-is bs (replicate n 0) u (b .2) (length-replicate n 0),
+            total-take (upto bs u) (replicate n 0),
+            total-zeros n,
+          );
     }
 
 pub filled-tells : FilledTells

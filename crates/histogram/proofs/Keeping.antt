@@ -5,17 +5,18 @@ use Prim.Native.Nat.{ℕ, suc, _+_, _^_, _≤_, _<_}
 use mathlib.Core.List.{List}
 use native.Mathlib.Numerals.{add-one}
 use native.Mathlib.Omega.{arith}
-use lib.ListN.{length, getD, set, replicate}
+use lib.ListN.{length, replicate}
 use Rattle.entries.specs.Ranks.{Rising}
-use Rattle.entries.proofs.Counting.{below-le-upto, upto-le-length}
+use Rattle.entries.proofs.Totals.{total-zeros, total-set}
+use Rattle.histogram_rows.specs.Bounds.{binOf}
+use Rattle.histogram_rows.specs.Bins.{counted}
+use Rattle.histogram_rows.proofs.Binning.{bin-fits}
 use Rattle.histogram.specs.declared.Sum.{Sum}
 use Rattle.histogram.specs.declared.Sum.the-variants.{Nothing, Some}
 use Rattle.histogram.specs.declared.Histogram.{Histogram}
-use Rattle.histogram.specs.Bounds.{bounds, binOf}
-use Rattle.histogram.specs.Bins.{counted}
+use Rattle.histogram.specs.Bounds.{bounds}
 use Rattle.histogram.specs.State.{observations, largest, fresh, plus, taken}
 use Rattle.histogram.specs.Sound.{SumFits, Sound}
-use Rattle.histogram.proofs.Totals.{total-zeros, total-set}
 
 pub fresh-sound : (bs : List ℕ) (n : ℕ) → 1 ≤ length bs → length bs ≤ bounds → Rising 0 bs → Sound fresh bs (replicate n 0)
 fresh-sound bs n a b r = record {
@@ -26,14 +27,6 @@ fresh-sound bs n a b r = record {
   adds-up = total-zeros n;
   sum-fits = refl;
 }
-
--- every value has a bin
-pub bin-fits : (bs cs : List ℕ) (v : ℕ) → length cs ≡ suc (length bs) → binOf bs v < length cs
-bin-fits bs cs v e = omega (arith, below-le-upto bs v, upto-le-length bs v)
-
--- the count of a bin raised by one, as the code writes it
-pub raised : (bs cs : List ℕ) (v k : ℕ) → k ≡ binOf bs v → set cs k (getD cs k 0 + 1) ≡ counted bs cs v
-raised bs cs v k e = rw (e, add-one (getD cs (binOf bs v) 0))
 
 -- the record with one observation more, by the two cases of its sum
 module _ (h : Histogram) (v : ℕ) where
@@ -58,6 +51,6 @@ taken-sound h bs cs v e s n l = record {
   few-bounds = s .few-bounds;
   never-fall = s .never-fall;
   few = omega arith;
-  adds-up = omega (arith, total-set cs (binOf bs v) (bin-fits bs cs v e), s .adds-up);
+  adds-up = omega (arith, total-set (binOf bs v) cs (bin-fits bs cs v e), s .adds-up);
   sum-fits = plus-fits (h .sum) (h .count) v l (s .sum-fits);
 }

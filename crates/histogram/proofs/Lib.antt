@@ -1,11 +1,6 @@
-pub mod Order
-pub mod Choosing
-pub mod Totals
 pub mod Sounds
 pub mod Keeping
 pub mod Cases
 pub mod Answering
-pub mod Binning
-pub mod Splitting
 pub mod Filling
 pub mod Examples

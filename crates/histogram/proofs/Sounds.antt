@@ -7,15 +7,16 @@ use mathlib.Core.List.{List}
 use borrow.Author.Tests.{le-leb, lt-leb, leb-true, eqb-true, eq-eqb}
 use lib.Dec.{leb, eqb}
 use lib.ListN.{length}
+use Rattle.entries.specs.Order.{rising}
 use Rattle.entries.specs.Ranks.{Rising}
+use Rattle.entries.specs.Total.{total}
+use Rattle.entries.proofs.Order.{rising-means, rising-holds}
 use Rattle.histogram.specs.declared.Sum.{Sum}
 use Rattle.histogram.specs.declared.Sum.the-variants.{Nothing, Some}
 use Rattle.histogram.specs.declared.Histogram.{Histogram}
-use Rattle.histogram.specs.Bounds.{bounds, rising, allowed}
-use Rattle.histogram.specs.Bins.{total}
+use Rattle.histogram.specs.Bounds.{bounds, allowed}
 use Rattle.histogram.specs.State.{observations, largest}
 use Rattle.histogram.specs.Sound.{SumFits, Sound, sumSound, sound}
-use Rattle.histogram.proofs.Order.{rising-means, rising-holds}
 
 -- the sum, by its two cases
 pub sum-nothing : (s : Sum) (n : ℕ) → s ≡ Nothing → eqb n 0 ≡ sumSound s n

@@ -7,7 +7,9 @@ use lib.Dec.{leb, ltb, eqb}
 use lib.ListN.{length}
 use Rattle.refusal.specs.declared.Refusal.the-variants.{Slots, Damaged, Count, BoundsEmpty, BoundsMany, BoundsOrder}
 use Rattle.refusal.specs.Number.{numberOf}
-use Rattle.histogram.specs.declared.Bound.{Bound}
+use Rattle.entries.specs.Order.{rising}
+use Rattle.histogram_rows.specs.declared.Bound.{Bound}
+use Rattle.histogram_rows.specs.Bins.{totalBelow, totalAbove, totalBetween, binsBetween}
 use Rattle.histogram.specs.declared.Histogram.{Histogram}
 use Rattle.histogram.specs.declared.Standing.{Standing}
 use Rattle.histogram.specs.declared.Standing.the-variants.{Fine, Refused}
@@ -15,8 +17,7 @@ use Rattle.histogram.specs.declared.Opened.{Opened}
 use Rattle.histogram.specs.declared.Inserted.{Inserted}
 use Rattle.histogram.specs.declared.Counted.{Counted}
 use Rattle.histogram.specs.declared.Summed.{Summed}
-use Rattle.histogram.specs.Bounds.{bounds, rising}
-use Rattle.histogram.specs.Bins.{totalBelow, totalAbove, totalBetween, binsBetween}
+use Rattle.histogram.specs.Bounds.{bounds}
 use Rattle.histogram.specs.State.{observations, fresh, taken}
 use Rattle.histogram.specs.Sound.{sound}
 

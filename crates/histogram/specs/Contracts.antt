@@ -4,10 +4,10 @@ use mathlib.Core.Path.{_≡_}
 use Prim.Native.Nat.{ℕ}
 use mathlib.Core.List.{List}
 use lib.ListN.{length, replicate}
+use Rattle.histogram_rows.specs.Bins.{counted}
 use Rattle.histogram.specs.declared.Histogram.{Histogram}
 use Rattle.histogram.specs.declared.Opened.{Opened}
 use Rattle.histogram.specs.declared.Inserted.{Inserted}
-use Rattle.histogram.specs.Bins.{counted}
 use Rattle.histogram.specs.Sound.{Sound}
 use Rattle.histogram.specs.Answers.{openStanding, insertStanding, openAnswer, insertAnswer, left}
 

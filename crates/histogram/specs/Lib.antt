@@ -1,5 +1,4 @@
 pub mod Bounds
-pub mod Bins
 pub mod State
 pub mod Sound
 pub mod Answers

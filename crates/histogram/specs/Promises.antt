@@ -1,6 +1,7 @@
 -- All that is promised of the histogram's definitions, in one record: the contract of `promises` states it, so each field has to be proved.
 -- Assumes nothing: these are statements.
-use Rattle.histogram.specs.Laws.{SoundAgrees, BinIsFirst, BelowAndAbove, BetweenIsDifference, BinsAreAPart, PartAddsUp, OpensOneWay, InsertsOneWay, FilledTells}
+use Rattle.histogram_rows.specs.Laws.{BinIsFirst, BetweenIsDifference, BinsAreAPart}
+use Rattle.histogram.specs.Laws.{SoundAgrees, BelowAndAbove, PartAddsUp, OpensOneWay, InsertsOneWay, FilledTells}
 use Rattle.histogram.specs.Readings.{HistogramReadings}
 
 pub record Promises : Type 0 where

@@ -7,12 +7,13 @@ use mathlib.Core.List.{List, [], _∷_}
 use lib.Dec.{eqb}
 use lib.ListN.{length, getD, replicate}
 use Rattle.entries.specs.Ranks.{upto, Member}
-use Rattle.histogram.specs.declared.Bound.the-variants.{Finite}
+use Rattle.entries.specs.Total.{total}
+use Rattle.histogram_rows.specs.declared.Bound.the-variants.{Finite}
+use Rattle.histogram_rows.specs.Bounds.{binOf}
+use Rattle.histogram_rows.specs.Bins.{totalBelow, counted}
 use Rattle.histogram.specs.declared.Sum.{Sum}
 use Rattle.histogram.specs.declared.Sum.the-variants.{Nothing, Some}
 use Rattle.histogram.specs.declared.Histogram.{Histogram}
-use Rattle.histogram.specs.Bounds.{binOf}
-use Rattle.histogram.specs.Bins.{total, totalBelow, counted}
 use Rattle.histogram.specs.State.{largest, fresh, taken}
 use Rattle.histogram.specs.Sound.{Sound}
 use Rattle.histogram.specs.Answers.{insertStanding, left}

@@ -7,11 +7,11 @@ use mathlib.Core.List.{List}
 use lib.Dec.{leb, eqb}
 use lib.ListN.{length}
 use Rattle.entries.specs.Ranks.{Rising}
+use Rattle.entries.specs.Total.{total}
 use Rattle.histogram.specs.declared.Sum.{Sum}
 use Rattle.histogram.specs.declared.Sum.the-variants.{Nothing, Some}
 use Rattle.histogram.specs.declared.Histogram.{Histogram}
 use Rattle.histogram.specs.Bounds.{bounds, allowed}
-use Rattle.histogram.specs.Bins.{total}
 use Rattle.histogram.specs.State.{observations, largest}
 
 -- the sum of n observations: nothing exactly at 0, else at most the largest observation for each

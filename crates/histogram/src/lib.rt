@@ -1,27 +1,21 @@
 // The histogram: how many observations fell into each of the bins that the caller's bounds cut, and their sum.
 // Bounds and counts are lent; nothing in a state is trusted, so every call tests what it is given.
 use entries::room;
-use entries::search;
 use fraction::wide;
+use histogram_rows::bounds;
+use histogram_rows::counts;
 use refusal::Refusal;
 ghost use mathlib.Core.Path.{_≡_};
-ghost use Prim.Native.Nat.{suc, _≤_, _<_};
-ghost use lib.ListN.{length};
 ghost use Rattle.histogram.specs.Bounds.{bounds};
-ghost use Rattle.histogram.specs.State.{observations, largest, taken};
-ghost use Rattle.histogram.specs.Sound.{SumFits, sumSound, sound};
-ghost use Rattle.histogram.specs.Answers.{standing, countAnswer, sumAnswer, belowAnswer, aboveAnswer, betweenAnswer, binsAnswer, binsNumber};
+ghost use Rattle.histogram.specs.State.{observations};
+ghost use Rattle.histogram.specs.Answers.{countAnswer, sumAnswer, belowAnswer, aboveAnswer, betweenAnswer, binsAnswer, binsNumber};
 ghost use Rattle.histogram.specs.Contracts.{OpenPost, InsertPost};
 ghost use Rattle.histogram.specs.Promises.{Promises};
 
-mod bounds;
-mod counts;
+mod steps;
 
-// The upper bound of a bin, or a bound that is asked for. +Inf equals itself.
-pub enum Bound {
-    Finite(u32),
-    PosInf,
-}
+// The upper bound of a bin, or a bound that is asked for.
+pub use histogram_rows::Bound;
 
 // The sum of the observations: nothing exactly while there are none.
 pub enum Sum {
@@ -73,7 +67,7 @@ impl Histogram {
     pub const OBSERVATIONS: u32 = 1000000000;
 
     // The largest observation.
-    const LARGEST: u64 = 4294967295;
+    pub(crate) const LARGEST: u64 = 4294967295;
 
     // The same limits as values, so that a contract can tie them to the definitions.
     pub fn bounds() -> usize
@@ -112,71 +106,6 @@ impl Histogram {
         Opened::Refused(Refusal::BoundsOrder)
     }
 
-    // Whether the sum fits the count: nothing exactly at 0, else at most the largest observation for each.
-    fn sum_sound(self) -> bool
-        ensures { λ r. ⌜ r ≡ sumSound (self .sum) (self .count) ⌝ }
-    {
-        let sum = self.sum;
-        match sum {
-            Sum::Nothing => self.count == 0,
-            Sum::Some(x) => {
-                if self.count < 1 {
-                    return false;
-                }
-                x <= wide(self.count) * Histogram::LARGEST
-            }
-        }
-    }
-
-    // Whether the state is sound.
-    fn sound(self, bounds: &[u32], counts: &[u32]) -> bool
-        requires { ⌜ length (now counts) ≡ suc (length (now bounds)) ⌝ }
-        ensures { λ r. ⌜ r ≡ sound self (now (bounds .entry)) (now (counts .entry)) ⌝ }
-    {
-        if bounds::allowed(bounds) {
-            if Histogram::OBSERVATIONS < self.count {
-                return false;
-            }
-            if counts::total(counts) != wide(self.count) {
-                return false;
-            }
-            return self.sum_sound();
-        }
-        false
-    }
-
-    // What every call asks first: that the counts fit the bounds, and that the state is sound.
-    fn standing(self, bounds: &[u32], counts: &[u32]) -> Standing
-        ensures { λ r. ⌜ r ≡ standing self (now (bounds .entry)) (now (counts .entry)) ⌝ }
-    {
-        if counts.len() != bounds.len() + 1 {
-            return Standing::Refused(Refusal::Slots);
-        }
-        if self.sound(bounds, counts) {
-            return Standing::Fine;
-        }
-        Standing::Refused(Refusal::Damaged)
-    }
-
-    // The record with one observation more.
-    fn taken(self, v: u64) -> Histogram
-        requires { ⌜ (self .count < observations) × SumFits (self .sum) (self .count) × (v ≤ largest) ⌝ }
-        ensures { λ r. ⌜ r ≡ taken self v ⌝ }
-    {
-        let count = self.count + 1;
-        let sum = self.sum;
-        match sum {
-            Sum::Nothing => Histogram {
-                count,
-                sum: Sum::Some(v),
-            },
-            Sum::Some(x) => Histogram {
-                count,
-                sum: Sum::Some(x + v),
-            },
-        }
-    }
-
     // One observation more, or why not.
     pub fn insert(self, bounds: &[u32], counts: &mut [u32], v: u32) -> Inserted
         ensures { λ r. ⌜ InsertPost self (now (bounds .entry)) (now (counts .entry)) v r (now (counts .exit)) ⌝ }
@@ -188,9 +117,7 @@ impl Histogram {
         if Histogram::OBSERVATIONS <= self.count {
             return Inserted::Refused(Refusal::Count);
         }
-        let bin = search::smaller_numbers(bounds, v);
-        let held = counts[bin];
-        counts[bin] = held + 1;
+        counts::raise(bounds, counts, v);
         Inserted::Taken(self.taken(wide(v)))
     }
 
@@ -225,8 +152,7 @@ impl Histogram {
         if let Standing::Refused(why) = standing {
             return Counted::Refused(why);
         }
-        let end = bounds::ending(bounds, upper);
-        let sum = counts::total(&counts[..end]) as u32;
+        let sum = counts::total_below(bounds, counts, upper) as u32;
         Counted::Count(sum)
     }
 
@@ -238,8 +164,7 @@ impl Histogram {
         if let Standing::Refused(why) = standing {
             return Counted::Refused(why);
         }
-        let start = bounds::ending(bounds, lower);
-        let sum = counts::total(&counts[start..]) as u32;
+        let sum = counts::total_above(bounds, counts, lower) as u32;
         Counted::Count(sum)
     }
 
@@ -257,8 +182,7 @@ impl Histogram {
         if let Standing::Refused(why) = standing {
             return Counted::Refused(why);
         }
-        let part = counts::between(bounds, counts, lower, upper);
-        let sum = counts::total(part) as u32;
+        let sum = counts::total_between(bounds, counts, lower, upper) as u32;
         Counted::Count(sum)
     }
 

@@ -7,83 +7,65 @@ use histogram::Opened;
 use histogram::Sum;
 use histogram::Summed;
 
-// Words, and no line's end.
-fn write(text: &[u8]) {
-    io::write_all(1, text);
-}
-
-// A line: words, and a number behind them.
-fn say(text: &[u8], n: u64) {
-    write(text);
-    io::print_decimal(1, n);
-    write(b"\n");
-}
-
 // A count or a total, or its refusal.
 fn say_counted(text: &[u8], answer: Counted) {
-    write(text);
+    say::words(text);
     match answer {
-        Counted::Count(n) => say(b"", n as u64),
-        Counted::Refused(why) => say(b"refused ", why.number() as u64),
+        Counted::Count(n) => say::line(b"", n),
+        Counted::Refused(why) => say::line(b"refused ", why.number()),
     }
 }
 
 // A sum, none or some, or its refusal.
 fn say_summed(text: &[u8], answer: Summed) {
-    write(text);
+    say::words(text);
     if let Summed::Refused(why) = answer {
-        say(b"refused ", why.number() as u64);
+        say::line(b"refused ", why.number());
         return;
     }
     let Summed::Of(sum) = answer else {
         return;
     };
     match sum {
-        Sum::Nothing => write(b"none\n"),
-        Sum::Some(x) => say(b"", x),
+        Sum::Nothing => say::words(b"none\n"),
+        Sum::Some(x) => say::wide_line(b"", x),
     }
 }
 
 // How opening went.
 fn say_opened(answer: Opened) {
     match answer {
-        Opened::Open(_) => write(b"opened\n"),
-        Opened::Refused(why) => say(b"open refused ", why.number() as u64),
+        Opened::Open(_) => say::words(b"opened\n"),
+        Opened::Refused(why) => say::line(b"open refused ", why.number()),
     }
 }
 
 // How an insert went.
 fn say_inserted(answer: Inserted) {
     match answer {
-        Inserted::Taken(_) => write(b"taken\n"),
-        Inserted::Refused(why) => say(b"insert refused ", why.number() as u64),
+        Inserted::Taken(_) => say::words(b"taken\n"),
+        Inserted::Refused(why) => say::line(b"insert refused ", why.number()),
     }
 }
 
 // A line of numbers.
 fn say_all(counts: &[u32]) {
-    let mut i = 0;
-    while i < counts.len() {
-        if 0 < i {
-            write(b" ");
-        }
-        io::print_decimal(1, fraction::wide(counts[i]));
-        i += 1;
-    }
-    write(b"\n");
+    say::list(b"", b" ", counts);
 }
 
-// Inserts 0, 1, .. below `end`, and stops at a refusal.
-fn fill(start: Histogram, bounds: &[u32], counts: &mut [u32], end: u32) -> Histogram {
+// The histogram after an insert: as it was before where it is refused.
+fn after(answer: Inserted, before: Histogram) -> Histogram {
+    match answer {
+        Inserted::Taken(next) => next,
+        Inserted::Refused(_) => before,
+    }
+}
+
+// Inserts 0, 1, .. below `end`.
+fn insert_below(start: Histogram, bounds: &[u32], counts: &mut [u32], end: u32) -> Histogram {
     let mut h = start;
-    let mut v = 0;
-    while v < end {
-        let answer = h.insert(bounds, counts, v);
-        let Inserted::Taken(next) = answer else {
-            return h;
-        };
-        h = next;
-        v += 1;
+    for v in 0..end {
+        h = after(h.insert(bounds, counts, v), h);
     }
     h
 }
@@ -123,7 +105,7 @@ fn reading() {
         return;
     };
     say_summed(b"sum ", empty.sum(&bounds, &counts));
-    let h = fill(empty, &bounds, &mut counts, 2048);
+    let h = insert_below(empty, &bounds, &mut counts, 2048);
     say_totals(h, &bounds, &counts);
 }
 
@@ -158,15 +140,9 @@ fn refused_inserts() {
     say_inserted(full.insert(&bounds, &mut counts, 5));
     say_all(&counts);
     say_all(damaged.bins(&bounds, &counts, Bound::Finite(0), Bound::PosInf));
-    say(
-        b"bins refused ",
-        fraction::wide(damaged.bins_refusal(&bounds, &counts)),
-    );
+    say::line(b"bins refused ", damaged.bins_refusal(&bounds, &counts));
     say_all(full.bins(&bounds, &counts, Bound::Finite(0), Bound::PosInf));
-    say(
-        b"bins refused ",
-        fraction::wide(full.bins_refusal(&bounds, &counts)),
-    );
+    say::line(b"bins refused ", full.bins_refusal(&bounds, &counts));
 }
 
 fn main() {

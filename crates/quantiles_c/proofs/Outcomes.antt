@@ -1,11 +1,10 @@
 -- Any two outcomes of a call coincide: both are the core's, in numbers.
 -- Assumes nothing.
-use mathlib.Core.Path.{_≡_, sym, ap, _∙_}
-use Rattle.quantiles_c.specs.declared.histograms.Part.{Part}
-use Rattle.quantiles_c.specs.Streams as stream
-use Rattle.quantiles_c.specs.Histograms as histogram
-use Rattle.quantiles_c.specs.Stores as store
-use Rattle.quantiles_c.specs.Ckmses as ckms
+use mathlib.Core.Path.{sym, ap, _∙_}
+use Rattle.words.specs.Streams as stream
+use Rattle.words.specs.Histograms as histogram
+use Rattle.words.specs.Stores as store
+use Rattle.words.specs.CkmsAnswers as ckms
 use Rattle.quantiles_c.specs.Laws.{StreamOpensOneWay, StreamInsertsOneWay, StreamAnswersOneWay, HistogramOpensOneWay, HistogramInsertsOneWay, BinsOneWay, StoreOpensOneWay, StoreInsertsOneWay, StoreCompressesOneWay, CkmsOpensOneWay, CkmsInsertsOneWay}
 
 pub stream-opens : StreamOpensOneWay

@@ -1,25 +1,25 @@
 -- Where the bins between two bounds stand among the counts.
 -- Assumes nothing.
 use mathlib.Core.Path.{_≡_, refl, sym, ap, _∙_}
-use Prim.Native.Nat.{ℕ, suc, _+_, _-_, _≤_}
+use Prim.Native.Nat.{ℕ, _-_, _≤_}
 use mathlib.Core.List.{List, []}
 use native.Mathlib.Omega.{arith}
-use borrow.Author.Tests.{eq-eqb, ne-eqb}
+use borrow.Author.Tests.{ne-eqb}
 use lib.ListN.{length, take, drop, length-drop}
 use lib.Seq.{length-take-le}
 use Rattle.refusal.specs.declared.Refusal.{Refusal}
 use Rattle.refusal.specs.declared.Refusal.the-variants.{Slots, Epsilon, Block, Damaged, Count, Full, Phi, Empty, BoundsEmpty, BoundsMany, BoundsOrder, File}
 use Rattle.refusal.specs.Number.{numberOf}
-use Rattle.histogram.specs.declared.Bound.{Bound}
-use Rattle.histogram.specs.declared.Bound.the-variants.{PosInf}
+use Rattle.histogram_rows.specs.declared.Bound.{Bound}
+use Rattle.histogram_rows.specs.declared.Bound.the-variants.{PosInf}
 use Rattle.histogram.specs.declared.Histogram.{Histogram}
 use Rattle.histogram.specs.declared.Standing.{Standing}
 use Rattle.histogram.specs.declared.Standing.the-variants.{Fine, Refused}
-use Rattle.histogram.specs.Bounds.{ending}
-use Rattle.histogram.specs.Bins.{binsBetween}
+use Rattle.histogram_rows.specs.Bounds.{ending}
+use Rattle.histogram_rows.specs.Bins.{binsBetween}
 use Rattle.histogram.specs.Answers.{standing, left, number, binsAnswer, binsNumber}
 use Rattle.histogram.proofs.Cases.{Ready, ready}
-use Rattle.histogram.proofs.Choosing.{ending-inf, ending-le, between-part}
+use Rattle.histogram_rows.proofs.Choosing.{ending-inf, ending-le, between-part}
 use Rattle.quantiles_c.specs.HistogramPosts.{BinsPost}
 
 -- no refusal has the number 0
@@ -38,8 +38,9 @@ numbered BoundsOrder = omega arith
 numbered File = omega arith
 
 module _ (h : Histogram) (bs cs : List ℕ) where
-  pub bins-refused : (l u : Bound) (k : ℕ) → k ≡ binsNumber h bs cs → (k ≡ 0 → ⊥) → BinsPost h bs cs l u (record { refusal = k; start = 0; length = 0 })
-  bins-refused l u k e n = go (standing h bs cs) refl
+  pub bins-refused : (l u : Bound) {k : ℕ} → k ≡ binsNumber h bs cs → (k ≡ 0 → ⊥)
+      → BinsPost h bs cs l u (record { refusal = k; start = 0; length = 0 })
+  bins-refused l u {k} e n = go (standing h bs cs) refl
     where
       go : (s : Standing) → standing h bs cs ≡ s → BinsPost h bs cs l u (record { refusal = k; start = 0; length = 0 })
       go Fine q = absurd (n (e ∙ ap number q))
@@ -52,17 +53,17 @@ module _ (h : Histogram) (bs cs : List ℕ) where
       }
 
   -- the number 0 is that of no refusal
-  pub fine : 0 ≡ binsNumber h bs cs → Ready h bs cs
-  fine e = go (standing h bs cs) refl
+  fine : {k : ℕ} → k ≡ binsNumber h bs cs → k ≡ 0 → Ready h bs cs
+  fine e z = go (standing h bs cs) refl
     where
       go : (s : Standing) → standing h bs cs ≡ s → Ready h bs cs
       go Fine q = ready h bs cs {r = standing h bs cs} refl q
-      go (Refused why) q = absurd (omega (arith, numbered why, e ∙ ap number q))
+      go (Refused why) q = absurd (omega (arith, numbered why, sym z ∙ e ∙ ap number q))
 
   module _ (r : Ready h bs cs) (l : Bound) where
     -- the bins between l and u are a part of the counts, as many as there are ends between
     part-is : (u : Bound) → binsAnswer h bs cs l u ≡ take (ending bs u - ending bs l) (drop (ending bs l) cs)
-    part-is u = ap (λ (s : Standing). left s (binsBetween bs cs l u) []) (r .fine) ∙ between-part bs cs l u (r .sound-is .never-fall) (r .long)
+    part-is u = rw (r .fine) (between-part bs cs l u (r .sound-is .never-fall) (r .long))
 
     fits : (u : Bound) → ending bs u - ending bs l ≤ length (drop (ending bs l) cs)
     fits u = omega (arith, length-drop (ending bs l) cs, ending-le bs u, r .long)
@@ -74,7 +75,11 @@ module _ (h : Histogram) (bs cs : List ℕ) where
     start-is = omega (arith, long-is PosInf, ending-inf bs, ending-le bs l, r .long)
 
     given : (u : Bound)
-        → BinsPost h bs cs l u (record { refusal = 0; start = length cs - length (binsAnswer h bs cs l PosInf); length = length (binsAnswer h bs cs l u) })
+        → BinsPost h bs cs l u (record {
+          refusal = 0;
+          start = length cs - length (binsAnswer h bs cs l PosInf);
+          length = length (binsAnswer h bs cs l u);
+        })
     given u = record {
       refused = sym (ap number (r .fine));
       begins = start-is ∙ rw (r .fine);
@@ -83,10 +88,13 @@ module _ (h : Histogram) (bs cs : List ℕ) where
       there = rw (start-is, long-is u) (sym (part-is u));
     }
 
-    module _ (above : List ℕ) (e : above ≡ binsAnswer h bs cs l PosInf) where
-      pub above-short : length above ≤ length cs
-      above-short = omega (arith, ap length e, long-is PosInf, ending-le bs PosInf, r .long)
+  module _ (l : Bound) where
+    pub above-short : {k : ℕ} {above : List ℕ} → k ≡ binsNumber h bs cs → k ≡ 0 → above ≡ binsAnswer h bs cs l PosInf → length above ≤ length cs
+    above-short {k} {above} e z q =
+        let r : Ready h bs cs = fine e z in
+        omega (arith, ap length q, long-is r l PosInf, ending-le bs PosInf, r .long)
 
-      pub bins-given : (u : Bound) (part : List ℕ) → part ≡ binsAnswer h bs cs l u
-          → BinsPost h bs cs l u (record { refusal = 0; start = length cs - length above; length = length part })
-      bins-given u part f = rw (e, f) (given u)
+    pub bins-given : (u : Bound) {k : ℕ} {above between : List ℕ} → k ≡ binsNumber h bs cs → k ≡ 0
+        → above ≡ binsAnswer h bs cs l PosInf → between ≡ binsAnswer h bs cs l u
+        → BinsPost h bs cs l u (record { refusal = 0; start = length cs - length above; length = length between })
+    bins-given u e z p q = rw (p, q) (given (fine e z) l u)

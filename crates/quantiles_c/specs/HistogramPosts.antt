@@ -1,28 +1,30 @@
 -- What holds after each call on a histogram that writes or hands back a part.
 -- Assumes nothing: these are definitions.
 use mathlib.Core.Path.{_≡_}
-use Prim.Native.Nat.{ℕ, _+_, _-_, _≤_}
+use Prim.Native.Nat.{ℕ, _+_, _≤_}
 use mathlib.Core.Bool.{cond}
 use mathlib.Core.List.{List}
 use lib.Dec.{eqb}
 use lib.ListN.{length, take, drop}
-use Rattle.histogram.specs.declared.Bound.{Bound}
+use Rattle.histogram_rows.specs.declared.Bound.{Bound}
 use Rattle.histogram.specs.declared.Histogram.{Histogram}
 use Rattle.histogram.specs.declared.Opened.{Opened}
 use Rattle.histogram.specs.declared.Inserted.{Inserted}
 use Rattle.histogram.specs.Contracts.{OpenPost, InsertPost}
 use Rattle.histogram.specs.Answers.{binsAnswer, binsNumber}
-use Rattle.histogram.specs.Bounds.{ending}
-use Rattle.quantiles_c.specs.declared.histograms.HistogramWords.{HistogramWords}
-use Rattle.quantiles_c.specs.declared.histograms.HistogramAnswer.{HistogramAnswer}
-use Rattle.quantiles_c.specs.declared.histograms.Part.{Part}
-use Rattle.quantiles_c.specs.Histograms.{histogramOf, flatOpened, flatInserted}
+use Rattle.histogram_rows.specs.Bounds.{ending}
+use Rattle.words.specs.declared.histograms.HistogramWords.{HistogramWords}
+use Rattle.words.specs.declared.histograms.HistogramAnswer.{HistogramAnswer}
+use Rattle.words.specs.declared.histograms.Part.{Part}
+use Rattle.words.specs.Histograms.{histogramOf, flatOpened, flatInserted}
 
+-- `stelo_histogram_open`
 pub record HistogramOpenPost (bs cs : List ℕ) (answer : HistogramAnswer) (cs′ : List ℕ) : Type 0 where
   pub core : Opened
   pub post : OpenPost bs cs core cs′
   pub flat : answer ≡ flatOpened core
 
+-- `stelo_histogram_insert`
 pub record HistogramInsertPost (given : HistogramWords) (bs cs : List ℕ) (v : ℕ) (answer : HistogramAnswer) (cs′ : List ℕ) : Type 0 where
   pub core : Inserted
   pub post : InsertPost (histogramOf given) bs cs v core cs′
@@ -32,7 +34,7 @@ pub record HistogramInsertPost (given : HistogramWords) (bs cs : List ℕ) (v : 
 abbrev pub startOf : ℕ → List ℕ → Bound → ℕ
 startOf refusal bs l = cond (eqb refusal 0) (ending bs l) 0
 
--- the refusal's number or 0, and the place and length of the part that the core's `bins` hands back
+-- `stelo_histogram_bins`: the refusal's number or 0, and the place and length of the part that the core's `bins` hands back
 pub record BinsPost (h : Histogram) (bs cs : List ℕ) (l u : Bound) (answer : Part) : Type 0 where
   pub refused : answer .refusal ≡ binsNumber h bs cs
   pub begins : answer .start ≡ startOf (binsNumber h bs cs) bs l

@@ -1,68 +1,26 @@
 -- The statements that are promised of the boundary beside each call's own contract; their proofs are in proofs/.
 -- Assumes nothing: these are statements.
 use mathlib.Core.Path.{_≡_}
-use Prim.Native.Nat.{ℕ, _≤_}
-use mathlib.Core.Bool.{false, cond}
+use Prim.Native.Nat.{ℕ}
 use mathlib.Core.List.{List}
-use lib.ListN.{length}
-use Rattle.refusal.specs.declared.Refusal.the-variants.{Slots, Damaged}
 use Rattle.entries.specs.declared.Entry.{Entry}
-use Rattle.greenwald_khanna.specs.declared.Stream.{Stream}
-use Rattle.histogram.specs.declared.Bound.{Bound}
+use Rattle.histogram_rows.specs.declared.Bound.{Bound}
 use Rattle.histogram.specs.declared.Histogram.{Histogram}
-use Rattle.histogram.specs.declared.Standing.{Standing}
-use Rattle.histogram.specs.Answers as histogram-answers
-use Rattle.ckms_store.specs.declared.Store.{Store}
-use Rattle.ckms_store.specs.declared.Checked.{Checked}
-use Rattle.ckms_store.specs.Limits.{slotsOk}
-use Rattle.ckms.specs.declared.CKMS.{CKMS}
-use Rattle.ckms.specs.Answers.{checked}
-use Rattle.quantiles_c.specs.declared.Number.{Number}
-use Rattle.quantiles_c.specs.declared.Ratio.{Ratio}
-use Rattle.quantiles_c.specs.declared.streams.StreamWords.{StreamWords}
-use Rattle.quantiles_c.specs.declared.streams.StreamAnswer.{StreamAnswer}
-use Rattle.quantiles_c.specs.declared.histograms.HistogramWords.{HistogramWords}
-use Rattle.quantiles_c.specs.declared.histograms.HistogramAnswer.{HistogramAnswer}
-use Rattle.quantiles_c.specs.declared.histograms.Part.{Part}
-use Rattle.quantiles_c.specs.declared.stores.StoreWords.{StoreWords}
-use Rattle.quantiles_c.specs.declared.stores.StoreAnswer.{StoreAnswer}
-use Rattle.quantiles_c.specs.declared.ckmses.CkmsWords.{CkmsWords}
-use Rattle.quantiles_c.specs.declared.ckmses.CkmsAnswer.{CkmsAnswer}
-use Rattle.quantiles_c.specs.Words.{largest}
-use Rattle.quantiles_c.specs.Streams as stream
-use Rattle.quantiles_c.specs.Histograms as histogram
-use Rattle.quantiles_c.specs.Stores as store
-use Rattle.quantiles_c.specs.Ckmses as ckms
+use Rattle.words.specs.declared.Number.{Number}
+use Rattle.words.specs.declared.Ratio.{Ratio}
+use Rattle.words.specs.declared.streams.StreamWords.{StreamWords}
+use Rattle.words.specs.declared.streams.StreamAnswer.{StreamAnswer}
+use Rattle.words.specs.declared.histograms.HistogramWords.{HistogramWords}
+use Rattle.words.specs.declared.histograms.HistogramAnswer.{HistogramAnswer}
+use Rattle.words.specs.declared.histograms.Part.{Part}
+use Rattle.words.specs.declared.stores.StoreWords.{StoreWords}
+use Rattle.words.specs.declared.stores.StoreAnswer.{StoreAnswer}
+use Rattle.words.specs.declared.ckmses.CkmsWords.{CkmsWords}
+use Rattle.words.specs.declared.ckms_answers.CkmsAnswer.{CkmsAnswer}
 use Rattle.quantiles_c.specs.StreamPosts.{StreamOpenPost, StreamInsertPost, StreamQuantilePost}
 use Rattle.quantiles_c.specs.HistogramPosts.{HistogramOpenPost, HistogramInsertPost, BinsPost}
 use Rattle.quantiles_c.specs.StorePosts.{StoreOpenPost, StoreInsertPost, StoreCompressPost}
 use Rattle.quantiles_c.specs.CkmsPosts.{CkmsOpenPost, CkmsInsertPost}
-
--- words that fit no histogram, or no CKMS, are refused as DAMAGED, after SLOTS, whatever is lent
-unfoldable pub HistogramMisfits : Type 0
-HistogramMisfits =
-    (w : HistogramWords) (bs cs : List ℕ) → histogram.fits w ≡ false
-    → histogram-answers.standing (histogram.histogramOf w) bs cs ≡ cond (histogram-answers.fits bs cs) (Standing.Refused Damaged) (Standing.Refused Slots)
-
-unfoldable pub CkmsMisfits : Type 0
-CkmsMisfits =
-    (w : CkmsWords) (list : List Entry) (lens : List ℕ) → ckms.fits w ≡ false
-    → checked (ckms.ckmsOf w) list lens ≡ cond (slotsOk (length list) (length lens)) (Checked.Refused Damaged) (Checked.Refused Slots)
-
--- the words of a state are read as that state again
-unfoldable pub StreamBack : Type 0
-StreamBack = (st : Stream) → stream.streamOf (stream.wordsOf st) ≡ st
-
-unfoldable pub StoreBack : Type 0
-StoreBack = (s : Store) → store.storeOf (store.wordsOf s) ≡ s
-
-unfoldable pub HistogramBack : Type 0
-HistogramBack = (h : Histogram) → h .count ≤ largest → histogram.histogramOf (histogram.wordsOf h) ≡ h
-
-unfoldable pub CkmsBack : Type 0
-CkmsBack =
-    (c : CKMS) → c .error .num ≤ largest → c .error .den ≤ largest → c .n ≤ largest → c .held ≤ largest → c .blocks ≤ largest → c .inserts ≤ largest
-    → ckms.lastWord (c .«last_in») ≤ largest → ckms.ckmsOf (ckms.wordsOf c) ≡ c
 
 -- any two outcomes of a call coincide: this is said of the calls whose contract is a record; every other one is an equation for its answer
 unfoldable pub StreamOpensOneWay : Type 0

@@ -1,11 +1,6 @@
 pub mod CkmsPosts
-pub mod Ckmses
 pub mod HistogramPosts
-pub mod Histograms
 pub mod Laws
 pub mod Promises
 pub mod StorePosts
-pub mod Stores
 pub mod StreamPosts
-pub mod Streams
-pub mod Words

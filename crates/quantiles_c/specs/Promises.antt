@@ -1,14 +1,8 @@
 -- All that is promised of the boundary's definitions, in one record: the contract of `promises` states it, so each field has to be proved.
 -- Assumes nothing: these are statements.
-use Rattle.quantiles_c.specs.Laws.{HistogramMisfits, CkmsMisfits, StreamBack, StoreBack, HistogramBack, CkmsBack, StreamOpensOneWay, StreamInsertsOneWay, StreamAnswersOneWay, HistogramOpensOneWay, HistogramInsertsOneWay, BinsOneWay, StoreOpensOneWay, StoreInsertsOneWay, StoreCompressesOneWay, CkmsOpensOneWay, CkmsInsertsOneWay}
+use Rattle.quantiles_c.specs.Laws.{StreamOpensOneWay, StreamInsertsOneWay, StreamAnswersOneWay, HistogramOpensOneWay, HistogramInsertsOneWay, BinsOneWay, StoreOpensOneWay, StoreInsertsOneWay, StoreCompressesOneWay, CkmsOpensOneWay, CkmsInsertsOneWay}
 
 pub record Promises : Type 0 where
-  pub histogramMisfits : HistogramMisfits
-  pub ckmsMisfits : CkmsMisfits
-  pub streamBack : StreamBack
-  pub storeBack : StoreBack
-  pub histogramBack : HistogramBack
-  pub ckmsBack : CkmsBack
   pub streamOpensOneWay : StreamOpensOneWay
   pub streamInsertsOneWay : StreamInsertsOneWay
   pub streamAnswersOneWay : StreamAnswersOneWay

@@ -8,23 +8,29 @@ use Rattle.ckms_store.specs.declared.Opened.{Opened}
 use Rattle.ckms_store.specs.declared.Inserted.{Inserted}
 use Rattle.ckms_store.specs.declared.Compressed.{Compressed}
 use Rattle.ckms_store.specs.Posts.{OpenPost, InsertPost, CompressPost}
-use Rattle.quantiles_c.specs.declared.Ratio.{Ratio}
-use Rattle.quantiles_c.specs.declared.stores.StoreWords.{StoreWords}
-use Rattle.quantiles_c.specs.declared.stores.StoreAnswer.{StoreAnswer}
-use Rattle.quantiles_c.specs.Words.{fractionOf}
-use Rattle.quantiles_c.specs.Stores.{storeOf, flatOpened, flatInserted, flatCompressed}
+use Rattle.words.specs.declared.Ratio.{Ratio}
+use Rattle.words.specs.declared.stores.StoreWords.{StoreWords}
+use Rattle.words.specs.declared.stores.StoreAnswer.{StoreAnswer}
+use Rattle.words.specs.Words.{fractionOf}
+use Rattle.words.specs.Stores.{storeOf, flatOpened, flatInserted, flatCompressed}
 
-pub record StoreOpenPost (error : Ratio) (block : ℕ) (list : List Entry) (lens : List ℕ) (answer : StoreAnswer) (list′ : List Entry) (lens′ : List ℕ) : Type 0 where
+-- `stelo_store_open`
+pub record StoreOpenPost (error : Ratio) (block : ℕ) (list : List Entry) (lens : List ℕ)
+    (answer : StoreAnswer) (list′ : List Entry) (lens′ : List ℕ) : Type 0 where
   pub core : Opened
   pub post : OpenPost (fractionOf error) block list lens core list′ lens′
   pub flat : answer ≡ flatOpened core
 
-pub record StoreInsertPost (given : StoreWords) (list : List Entry) (lens : List ℕ) (x : ℕ) (answer : StoreAnswer) (list′ : List Entry) (lens′ : List ℕ) : Type 0 where
+-- `stelo_store_insert`
+pub record StoreInsertPost (given : StoreWords) (list : List Entry) (lens : List ℕ) (x : ℕ)
+    (answer : StoreAnswer) (list′ : List Entry) (lens′ : List ℕ) : Type 0 where
   pub core : Inserted
   pub post : InsertPost (storeOf given) list lens x core list′ lens′
   pub flat : answer ≡ flatInserted given core
 
-pub record StoreCompressPost (given : StoreWords) (list : List Entry) (lens : List ℕ) (answer : StoreAnswer) (list′ : List Entry) (lens′ : List ℕ) : Type 0 where
+-- `stelo_store_compress`
+pub record StoreCompressPost (given : StoreWords) (list : List Entry) (lens : List ℕ)
+    (answer : StoreAnswer) (list′ : List Entry) (lens′ : List ℕ) : Type 0 where
   pub core : Compressed
   pub post : CompressPost (storeOf given) list lens core list′ lens′
   pub flat : answer ≡ flatCompressed given core

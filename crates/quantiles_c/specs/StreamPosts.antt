@@ -8,23 +8,26 @@ use Rattle.greenwald_khanna.specs.declared.Opened.{Opened}
 use Rattle.greenwald_khanna.specs.declared.Inserted.{Inserted}
 use Rattle.greenwald_khanna.specs.declared.Answer.{Answer}
 use Rattle.greenwald_khanna.specs.Posts.{OpenPost, InsertPost, QuantilePost}
-use Rattle.quantiles_c.specs.declared.Number.{Number}
-use Rattle.quantiles_c.specs.declared.Ratio.{Ratio}
-use Rattle.quantiles_c.specs.declared.streams.StreamWords.{StreamWords}
-use Rattle.quantiles_c.specs.declared.streams.StreamAnswer.{StreamAnswer}
-use Rattle.quantiles_c.specs.Words.{fractionOf}
-use Rattle.quantiles_c.specs.Streams.{streamOf, flatOpened, flatInserted, flatAnswer}
+use Rattle.words.specs.declared.Number.{Number}
+use Rattle.words.specs.declared.Ratio.{Ratio}
+use Rattle.words.specs.declared.streams.StreamWords.{StreamWords}
+use Rattle.words.specs.declared.streams.StreamAnswer.{StreamAnswer}
+use Rattle.words.specs.Words.{fractionOf}
+use Rattle.words.specs.Streams.{streamOf, flatOpened, flatInserted, flatAnswer}
 
+-- `stelo_stream_open`
 pub record StreamOpenPost (epsilon : Ratio) (before : List Entry) (answer : StreamAnswer) (list : List Entry) : Type 0 where
   pub core : Opened
   pub post : OpenPost (fractionOf epsilon) before core list
   pub flat : answer ≡ flatOpened core
 
+-- `stelo_stream_insert`
 pub record StreamInsertPost (given : StreamWords) (before : List Entry) (x : ℕ) (answer : StreamAnswer) (list : List Entry) : Type 0 where
   pub core : Inserted
   pub post : InsertPost (streamOf given) before x core list
   pub flat : answer ≡ flatInserted given core
 
+-- `stelo_stream_quantile`
 pub record StreamQuantilePost (given : StreamWords) (list : List Entry) (phi : Ratio) (answer : Number) : Type 0 where
   pub core : Answer
   pub post : QuantilePost (streamOf given) list (fractionOf phi) core

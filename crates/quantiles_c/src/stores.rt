@@ -1,182 +1,22 @@
-// The store for C. All six words of its state fit, so the core's tests are all the tests.
-use crate::Number;
-use crate::Ratio;
-use ckms_store::Answer;
-use ckms_store::Compressed;
-use ckms_store::Inserted;
-use ckms_store::IsEmpty;
-use ckms_store::Len;
-use ckms_store::Opened;
+// The store's calls.
 use ckms_store::Store;
-use fraction::Fraction;
+use words::Number;
+use words::Ratio;
+use words::stores::RankedAnswer;
+use words::stores::StoreAnswer;
+use words::stores::StoreWords;
+use words::stores::compressed;
+use words::stores::emptiness;
+use words::stores::inserted;
+use words::stores::length;
+use words::stores::opened;
+use words::stores::ranked;
 ghost use mathlib.Core.Path.{_≡_};
 ghost use Rattle.entries.specs.Entry.{entriesOf};
 ghost use Rattle.ckms_store.specs.Answers.{lenOf, emptyOf, queried};
-ghost use Rattle.quantiles_c.specs.Words.{fractionOf};
-ghost use Rattle.quantiles_c.specs.Stores.{storeOf, wordsOf, flatOpened, flatInserted, flatCompressed, flatLen, flatEmpty, flatRanked};
+ghost use Rattle.words.specs.Words.{fractionOf};
+ghost use Rattle.words.specs.Stores.{storeOf, flatLen, flatEmpty, flatRanked};
 ghost use Rattle.quantiles_c.specs.StorePosts.{StoreOpenPost, StoreInsertPost, StoreCompressPost};
-
-// A store's state.
-#[repr(C)]
-pub struct StoreWords {
-    pub num: u32,
-    pub den: u32,
-    pub n: u32,
-    pub held: u32,
-    pub block: u32,
-    pub blocks: u32,
-}
-
-// A store, or the refusal's number.
-#[repr(C)]
-pub struct StoreAnswer {
-    pub refusal: u32,
-    pub store: StoreWords,
-}
-
-// A rank and a value, or the refusal's number.
-#[repr(C)]
-pub struct RankedAnswer {
-    pub refusal: u32,
-    pub rank: u32,
-    pub value: u32,
-}
-
-impl StoreWords {
-    fn store(self) -> Store
-        ensures { λ r. ⌜ r ≡ storeOf self ⌝ }
-    {
-        Store {
-            error: Fraction {
-                num: self.num,
-                den: self.den,
-            },
-            n: self.n,
-            held: self.held,
-            block: self.block,
-            blocks: self.blocks,
-        }
-    }
-}
-
-fn words(store: Store) -> StoreWords
-    ensures { λ r. ⌜ r ≡ wordsOf store ⌝ }
-{
-    let error = store.error;
-    StoreWords {
-        num: error.num,
-        den: error.den,
-        n: store.n,
-        held: store.held,
-        block: store.block,
-        blocks: store.blocks,
-    }
-}
-
-fn opened(answer: Opened) -> StoreAnswer
-    ensures { λ r. ⌜ r ≡ flatOpened answer ⌝ }
-{
-    match answer {
-        Opened::Open(store) => StoreAnswer {
-            refusal: 0,
-            store: words(store),
-        },
-        Opened::Refused(why) => StoreAnswer {
-            refusal: why.number(),
-            store: StoreWords {
-                num: 0,
-                den: 0,
-                n: 0,
-                held: 0,
-                block: 0,
-                blocks: 0,
-            },
-        },
-    }
-}
-
-fn inserted(answer: Inserted, given: StoreWords) -> StoreAnswer
-    ensures { λ r. ⌜ r ≡ flatInserted given answer ⌝ }
-{
-    match answer {
-        Inserted::Taken(store) => StoreAnswer {
-            refusal: 0,
-            store: words(store),
-        },
-        Inserted::Refused(why) => StoreAnswer {
-            refusal: why.number(),
-            store: given,
-        },
-    }
-}
-
-fn compressed(answer: Compressed, given: StoreWords) -> StoreAnswer
-    ensures { λ r. ⌜ r ≡ flatCompressed given answer ⌝ }
-{
-    match answer {
-        Compressed::Done(store) => StoreAnswer {
-            refusal: 0,
-            store: words(store),
-        },
-        Compressed::Refused(why) => StoreAnswer {
-            refusal: why.number(),
-            store: given,
-        },
-    }
-}
-
-fn length(answer: Len) -> Number
-    ensures { λ r. ⌜ r ≡ flatLen answer ⌝ }
-{
-    match answer {
-        Len::Held(value) => Number { refusal: 0, value },
-        Len::Refused(why) => Number {
-            refusal: why.number(),
-            value: 0,
-        },
-    }
-}
-
-fn emptiness(answer: IsEmpty) -> Number
-    ensures { λ r. ⌜ r ≡ flatEmpty answer ⌝ }
-{
-    match answer {
-        IsEmpty::Is(empty) => {
-            if empty {
-                return Number {
-                    refusal: 0,
-                    value: 1,
-                };
-            }
-            Number {
-                refusal: 0,
-                value: 0,
-            }
-        }
-        IsEmpty::Refused(why) => Number {
-            refusal: why.number(),
-            value: 0,
-        },
-    }
-}
-
-// Also what a CKMS's query answers.
-pub(crate) fn ranked(answer: Answer) -> RankedAnswer
-    ensures { λ r. ⌜ r ≡ flatRanked answer ⌝ }
-{
-    match answer {
-        Answer::Given(found) => RankedAnswer {
-            refusal: 0,
-            rank: found.rank,
-            value: found.value,
-        },
-        Answer::Refused(why) => RankedAnswer {
-            refusal: why.number(),
-            rank: 0,
-            value: 0,
-        },
-    }
-}
 
 // A fresh store. Refused: SLOTS, EPSILON, BLOCK.
 #[no_mangle]

@@ -1,106 +1,17 @@
-// The stream for C. All four words of its state fit, so the core's tests are all the tests.
-use crate::Number;
-use crate::Ratio;
-use fraction::Fraction;
-use greenwald_khanna::Answer;
-use greenwald_khanna::Inserted;
-use greenwald_khanna::Opened;
+// The stream's calls.
 use greenwald_khanna::Stream;
+use words::Number;
+use words::Ratio;
+use words::streams::StreamAnswer;
+use words::streams::StreamWords;
+use words::streams::inserted;
+use words::streams::opened;
+use words::streams::told;
 ghost use mathlib.Core.Path.{_≡_};
 ghost use Rattle.entries.specs.Entry.{entriesOf};
 ghost use Rattle.greenwald_khanna.specs.Answers.{toldP, toldN, toldS};
-ghost use Rattle.quantiles_c.specs.Streams.{streamOf, wordsOf, flatOpened, flatInserted, flatAnswer};
+ghost use Rattle.words.specs.Streams.{streamOf, flatAnswer};
 ghost use Rattle.quantiles_c.specs.StreamPosts.{StreamOpenPost, StreamInsertPost, StreamQuantilePost};
-
-// A stream's state.
-#[repr(C)]
-pub struct StreamWords {
-    pub num: u32,
-    pub den: u32,
-    pub n: u32,
-    pub held: u32,
-}
-
-// A stream, or the refusal's number.
-#[repr(C)]
-pub struct StreamAnswer {
-    pub refusal: u32,
-    pub stream: StreamWords,
-}
-
-impl StreamWords {
-    fn stream(self) -> Stream
-        ensures { λ r. ⌜ r ≡ streamOf self ⌝ }
-    {
-        Stream {
-            epsilon: Fraction {
-                num: self.num,
-                den: self.den,
-            },
-            n: self.n,
-            held: self.held,
-        }
-    }
-}
-
-fn words(stream: Stream) -> StreamWords
-    ensures { λ r. ⌜ r ≡ wordsOf stream ⌝ }
-{
-    let epsilon = stream.epsilon;
-    StreamWords {
-        num: epsilon.num,
-        den: epsilon.den,
-        n: stream.n,
-        held: stream.held,
-    }
-}
-
-fn opened(answer: Opened) -> StreamAnswer
-    ensures { λ r. ⌜ r ≡ flatOpened answer ⌝ }
-{
-    match answer {
-        Opened::Open(stream) => StreamAnswer {
-            refusal: 0,
-            stream: words(stream),
-        },
-        Opened::Refused(why) => StreamAnswer {
-            refusal: why.number(),
-            stream: StreamWords {
-                num: 0,
-                den: 0,
-                n: 0,
-                held: 0,
-            },
-        },
-    }
-}
-
-fn inserted(answer: Inserted, given: StreamWords) -> StreamAnswer
-    ensures { λ r. ⌜ r ≡ flatInserted given answer ⌝ }
-{
-    match answer {
-        Inserted::Taken(stream) => StreamAnswer {
-            refusal: 0,
-            stream: words(stream),
-        },
-        Inserted::Refused(why) => StreamAnswer {
-            refusal: why.number(),
-            stream: given,
-        },
-    }
-}
-
-fn told(answer: Answer) -> Number
-    ensures { λ r. ⌜ r ≡ flatAnswer answer ⌝ }
-{
-    match answer {
-        Answer::Value(value) => Number { refusal: 0, value },
-        Answer::Refused(why) => Number {
-            refusal: why.number(),
-            value: 0,
-        },
-    }
-}
 
 // A fresh stream. Refused: SLOTS, EPSILON.
 #[no_mangle]

@@ -1,7 +1,6 @@
 // Reading 6 is run, and readings 2 and 5 once more as compiled code. Then every call is made on a few thousand altered states: a sound
 // state and its rows with bits flipped, or with words that a careless caller may hand in.
 use fraction::Fraction;
-use fraction::wide;
 use greenwald_khanna::Answer;
 use greenwald_khanna::Inserted;
 use greenwald_khanna::Opened;
@@ -12,33 +11,26 @@ const ROUNDS: u32 = 4000;
 
 const BROKEN: u32 = 13;
 
-// A line: words, and a number behind them.
-fn say(text: &[u8], n: u64) {
-    io::write_all(1, text);
-    io::print_decimal(1, n);
-    io::write_all(1, b"\n");
-}
-
 // A line for one answer.
 fn say_answer(text: &[u8], answer: Answer) {
-    io::write_all(1, text);
+    say::words(text);
     match answer {
-        Answer::Value(v) => say(b"", v as u64),
-        Answer::Refused(why) => say(b"refused ", why.number() as u64),
+        Answer::Value(v) => say::line(b"", v),
+        Answer::Refused(why) => say::line(b"refused ", why.number()),
     }
 }
 
 // A line for one opening: the fraction, and `opens` or the refusal.
 fn say_opened(num: u32, den: u32) {
     let mut rows = [[7u32; 3]; 16];
-    io::print_decimal(1, num as u64);
-    io::write_all(1, b"/");
-    io::print_decimal(1, den as u64);
+    say::number(num);
+    say::words(b"/");
+    say::number(den);
     if let Opened::Refused(why) = Stream::open(Fraction { num, den }, &mut rows) {
-        say(b" refused ", why.number() as u64);
+        say::line(b" refused ", why.number());
         return;
     }
-    io::write_all(1, b" opens\n");
+    say::words(b" opens\n");
 }
 
 // Reading 2; and with two slots only 10 and 30 are accepted, as in reading 5.
@@ -123,11 +115,8 @@ fn same_row(x: [u32; 3], y: [u32; 3]) -> bool {
 
 // Whether two lists of rows are the same words.
 fn same(a: &[[u32; 3]; 16], b: &[[u32; 3]; 16]) -> bool {
-    let mut i = 0;
-    while i < 16 {
-        if same_row(a[i], b[i]) {
-            i += 1;
-        } else {
+    for place in 0..16 {
+        if !same_row(a[place], b[place]) {
             return false;
         }
     }
@@ -203,36 +192,32 @@ fn count(counts: &mut [u32], kind: u32) {
 // What comes of the altered states of one stream, counted by number.
 fn tally(s: Stream, rows: [[u32; 3]; 16], counts: &mut [u32; 14]) {
     let mut seed = 2463534242;
-    let mut round = 0;
-    while round < ROUNDS {
+    for round in 0..ROUNDS {
         seed = next(seed);
         count(counts, tried_altered(s, rows, seed));
-        round += 1;
     }
 }
 
 fn say_tried(s: Stream, rows: [[u32; 3]; 16]) {
     let mut counts = [0u32; 14];
     tally(s, rows, &mut counts);
-    say(b"unaltered ", tried(s, rows) as u64);
-    say(b"taken ", wide(counts[0]));
-    say(b"refused 4 ", wide(counts[4]));
-    say(b"refused 5 ", wide(counts[5]));
-    say(b"refused 6 ", wide(counts[6]));
-    say(b"broken ", wide(counts[13]));
+    say::line(b"unaltered ", tried(s, rows));
+    say::line(b"taken ", counts[0]);
+    say::line(b"refused 4 ", counts[4]);
+    say::line(b"refused 5 ", counts[5]);
+    say::line(b"refused 6 ", counts[6]);
+    say::line(b"broken ", counts[13]);
 }
 
 // The stream after `many` words; a refused one is skipped.
-fn filled(start: Stream, rows: &mut [[u32; 3]], many: u32) -> Stream {
+fn filled(start: Stream, rows: &mut [[u32; 3]; 16], many: u32) -> Stream {
     let mut stream = start;
     let mut seed = 2463534242;
-    let mut i = 0;
-    while i < many {
+    for _ in 0..many {
         seed = next(seed);
         if let Inserted::Taken(after) = stream.insert(rows, seed / 4194304) {
             stream = after;
         }
-        i += 1;
     }
     stream
 }
@@ -245,7 +230,7 @@ fn say_altered(den: u32, many: u32) {
         return;
     };
     let s = filled(fresh, &mut rows, many);
-    say(b"held ", s.held as u64);
+    say::line(b"held ", s.held);
     say_tried(s, rows);
 }
 

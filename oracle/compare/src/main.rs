@@ -8,7 +8,7 @@ mod hostile;
 mod random;
 mod subject;
 
-use domain::Verdict;
+use domain::{ckmses, histograms, stores, streams, Verdict};
 use std::collections::BTreeMap;
 use std::sync::atomic::Ordering::Relaxed;
 use std::time::Instant;
@@ -83,30 +83,26 @@ fn against_original<S: Subject>(asked: &Asked) -> Verdict {
     let name = |what: &str| format!("{} and original, {what}", S::NAME);
     let dens: &[u32] = if long { &[2, 4, 8, 16, 32] } else { &[2, 4, 8] };
     let shapes: &[(u32, usize)] = if long { &[(4, 7), (3, 9), (2, 13)] } else { &[(3, 7), (2, 10)] };
-    part(asked, &name("stream, short"), |t| domain::streams_short::<S>(t, dens, shapes))?;
+    part(asked, &name("stream, short"), |t| streams::short::<S>(t, dens, shapes))?;
     let epsilons = [[1, 2], [1, 4], [3, 8], [1, 16], [5, 32], [1, 128], [100, 1_024], [1, 512], [1, 1_024]];
-    part(asked, &name("stream, random"), |t| domain::streams_random::<S>(t, seed, &epsilons, if long { 50_000 } else { 4_000 }))?;
-    part(asked, &name("histogram, short"), |t| domain::histograms_short::<S>(t))?;
+    part(asked, &name("stream, random"), |t| streams::random::<S>(t, seed, &epsilons, if long { 50_000 } else { 4_000 }))?;
+    part(asked, &name("histogram, short"), |t| histograms::short::<S>(t))?;
     let sizes = [1, 2, 7, 64, 464, 1_024];
-    part(asked, &name("histogram, random"), |t| domain::histograms_random::<S>(t, seed, &sizes, if long { 20_000 } else { 1_000 }))?;
+    part(asked, &name("histogram, random"), |t| histograms::random::<S>(t, seed, &sizes, if long { 20_000 } else { 1_000 }))?;
     let shapes: &[(u32, usize)] = if long { &[(3, 7), (2, 9)] } else { &[(2, 7)] };
-    part(asked, &name("store, short"), |t| domain::stores_short::<S>(t, &dens[..3], &[1, 2, 3], shapes))?;
+    part(asked, &name("store, short"), |t| stores::short::<S>(t, &dens[..3], &[1, 2, 3], shapes))?;
     let errors = [[1, 2], [1, 4], [7, 8], [3, 16], [1, 64], [1, 1_024], [1_023, 1_024]];
     let n = if long { 3_000 } else { 400 };
-    part(asked, &name("store, random"), |t| domain::stores_random::<S>(t, seed, &errors, &[1, 2, 3, 16, 4_096], n))?;
+    part(asked, &name("store, random"), |t| stores::random::<S>(t, seed, &errors, &[1, 2, 3, 16, 4_096], n))?;
     let shapes: &[(u32, usize)] = if long { &[(4, 7), (2, 12)] } else { &[(3, 7), (2, 10)] };
-    part(asked, &name("CKMS, short"), |t| domain::ckms_short::<S>(t, dens, shapes))?;
-    part(asked, &name("CKMS, random"), |t| domain::ckms_random::<S>(t, seed, &errors, if long { 20_000 } else { 2_000 }))
+    part(asked, &name("CKMS, short"), |t| ckmses::short::<S>(t, dens, shapes))?;
+    part(asked, &name("CKMS, random"), |t| ckmses::random::<S>(t, seed, &errors, if long { 20_000 } else { 2_000 }))
 }
 
 /// The whole scans: a million observations.
 fn whole_scans(asked: &Asked) -> Verdict {
-    let million = 1_000_000;
     let epsilons = [[1, 2], [1, 16], [1, 128], [1, 512], [1, 1_024]];
-    part(asked, "library and original, stream, 1,000,000 observations", |t| domain::streams_random::<Library>(t, asked.seed, &epsilons, million))?;
-    part(asked, "library and original, CKMS, 1,000,000 observations", |t| {
-        domain::ckms_random::<Library>(t, asked.seed, &[[1, 2], [1, 4], [3, 16]], million)
-    })
+    part(asked, "library and original, stream, 1,000,000 observations", |t| streams::random::<Library>(t, asked.seed, &epsilons, 1_000_000))
 }
 
 /// Any words whatever.

@@ -1,6 +1,6 @@
 -- `ckms::promises` meets its contract: each promise is a theorem.
 -- Assumes nothing.
-use Rattle.ckms.proofs.Computed.{computed}
+use Rattle.ckms.proofs.Abacus.{computed}
 use Rattle.ckms.proofs.Exactly.{sound-exactly, open-exactly, check-exactly, insert-exactly, query-exactly}
 use Rattle.ckms.proofs.Outcomes.{one-opening, one-insert}
 use Rattle.ckms.proofs.promises.Statement.{statement}

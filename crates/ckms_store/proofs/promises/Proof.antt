@@ -1,7 +1,7 @@
 -- `ckms_store::promises` meets its contract: each promise is a theorem.
 -- Assumes nothing.
 use Rattle.ckms_store.proofs.Accepted.{sound-exactly, insert-sound, compress-sound}
-use Rattle.ckms_store.proofs.Computed.{computed}
+use Rattle.ckms_store.proofs.Abacus.{computed}
 use Rattle.ckms_store.proofs.Ends.{ends-by-value}
 use Rattle.ckms_store.proofs.Exactly.{open-exactly, check-exactly, insert-exactly, query-exactly}
 use Rattle.ckms_store.proofs.Outcomes.{one-opening, one-insert, one-compression}

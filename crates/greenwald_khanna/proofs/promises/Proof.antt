@@ -3,7 +3,7 @@
 use Rattle.greenwald_khanna.specs.Answers.{openedList}
 use Rattle.greenwald_khanna.specs.Promises.{FreshSound, AcceptedSound, SumsToN}
 use Rattle.greenwald_khanna.proofs.Bounds.{demand3}
-use Rattle.greenwald_khanna.proofs.Computed.{computed}
+use Rattle.greenwald_khanna.proofs.Abacus.{computed}
 use Rattle.greenwald_khanna.proofs.Exactly.{open-exactly, insert-exactly, quantile-exactly, told-exactly}
 use Rattle.greenwald_khanna.proofs.Fresh.{opened-fresh}
 use Rattle.greenwald_khanna.proofs.Kept.{inserted-kept}

@@ -1,9 +1,9 @@
 -- `greenwald_khanna_rows::turn` meets its contract: each way is one law about a store in a list of rows.
 -- Assumes nothing.
 use mathlib.Core.Path.{sym, _∙_}
+use Rattle.entries.proofs.Parts.{entryAt}
 use native.Mathlib.Omega.{arith}
 use borrow.Author.Needs.{needs}
-use Rattle.greenwald_khanna_rows.proofs.Cells.{entryAt}
 use Rattle.greenwald_khanna_rows.proofs.Turns.{goes-below, goes, stays}
 use Rattle.greenwald_khanna_rows.proofs.turn.Statement.{statement}
 use Rattle.greenwald_khanna_rows.proofs.turn.Tie as tie

@@ -1,19 +1,11 @@
 -- `quantiles_c::promises` meets its contract: each statement is a theorem of this folder.
 -- Assumes nothing.
-use Rattle.quantiles_c.proofs.Backs.{stream-back, store-back, histogram-back, ckms-back}
-use Rattle.quantiles_c.proofs.Misfits.{histogram-misfits, ckms-misfits}
 use Rattle.quantiles_c.proofs.Outcomes.{stream-opens, stream-inserts, stream-answers, histogram-opens, histogram-inserts, bins-agree, store-opens, store-inserts, store-compresses, ckms-opens, ckms-inserts}
 use Rattle.quantiles_c.proofs.promises.Statement.{statement}
 use Rattle.quantiles_c.proofs.promises.Tie as tie
 
 returns : tie.Need-returns
 returns c = record {
-  histogramMisfits = histogram-misfits;
-  ckmsMisfits = ckms-misfits;
-  streamBack = stream-back;
-  storeBack = store-back;
-  histogramBack = histogram-back;
-  ckmsBack = ckms-back;
   streamOpensOneWay = stream-opens;
   streamInsertsOneWay = stream-inserts;
   streamAnswersOneWay = stream-answers;

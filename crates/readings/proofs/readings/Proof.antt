@@ -3,9 +3,9 @@
 use mathlib.Core.Path.{refl}
 use Rattle.entries.specs.Place.{place}
 use Rattle.fraction.specs.Band.{halvings}
-use Rattle.ckms.proofs.Computed as ckms
-use Rattle.ckms_store.proofs.Computed as store
-use Rattle.greenwald_khanna.proofs.Computed as stream
+use Rattle.ckms.proofs.Abacus as ckms
+use Rattle.ckms_store.proofs.Abacus as store
+use Rattle.greenwald_khanna.proofs.Abacus as stream
 use Rattle.histogram.proofs.Examples as histogram
 use Rattle.mean.proofs.Examples as mean
 use Rattle.scan_lines.proofs.Examples as scan

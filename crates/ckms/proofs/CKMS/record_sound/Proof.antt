@@ -1,6 +1,7 @@
 -- `CKMS::record_sound` meets its contract: the tests stand in the order of the definition.
 -- Assumes nothing.
 use mathlib.Core.Path.{sym, _∙_}
+use native.Mathlib.Omega.{arith}
 use Rattle.ckms.proofs.Tests.{counter-unsound, last-unsound, last-sound}
 use borrow.Author.Needs.{needs}
 use Rattle.ckms.proofs.CKMS.record_sound.Statement.{statement}
@@ -12,7 +13,7 @@ insert-threshold-requires c κs = search needs
 returns : tie.Need-returns
 returns c =
     let m = c .before .before in
-    sym (counter-unsound (m .before .before .args .self) (m .insert-threshold .result) (m .insert-threshold .ensures) (c .if1 .taken))
+    sym (counter-unsound (m .before .before .args .self) (m .insert-threshold .result) (m .insert-threshold .ensures) (omega arith))
 
 last-sound-requires : tie.Need-last-sound-requires
 last-sound-requires c κs = search needs
@@ -25,13 +26,13 @@ returns-2 c =
     let l = c .before .before in
     let m = l .before .before .before in
     c .cma-sound .ensures
-    ∙ sym (last-sound (m .before .before .args .self) (m .insert-threshold .result) (m .insert-threshold .ensures) (l .before .if1 .left) (sym (l .last-sound .ensures) ∙ c .before .if2 .taken))
+    ∙ sym (last-sound (m .before .before .args .self) (m .insert-threshold .result) (m .insert-threshold .ensures) (omega arith) (sym (l .last-sound .ensures) ∙ c .before .if2 .taken))
 
 returns-3 : tie.Need-returns-3
 returns-3 c =
     let l = c .before in
     let m = l .before .before .before in
-    sym (last-unsound (m .before .before .args .self) (m .insert-threshold .result) (m .insert-threshold .ensures) (l .before .if1 .left) (sym (l .last-sound .ensures) ∙ c .if2 .left))
+    sym (last-unsound (m .before .before .args .self) (m .insert-threshold .result) (m .insert-threshold .ensures) (omega arith) (sym (l .last-sound .ensures) ∙ c .if2 .left))
 
 pub record-sound-spec : {M : Type 1} → statement M
 record-sound-spec =

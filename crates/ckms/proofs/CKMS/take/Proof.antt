@@ -1,7 +1,6 @@
 -- `CKMS::take` meets its contract: the counter, the mean and the store after the insert make the new state, and it is sound.
 -- Assumes nothing.
-use Prim.Native.Nat.{_+_}
-use native.Mathlib.Numerals.{add-one}
+use native.Mathlib.Omega.{arith}
 use Rattle.entries.specs.Entry.{entriesOf}
 use Rattle.ckms.proofs.Takes.{sound-parts, store-ready, take-post}
 use borrow.Author.Needs.{needs}
@@ -45,8 +44,8 @@ returns c =
     let i = k .before .before in
     let s = i .before .before .before in
     let a = s .args in
-    take-post (a .self) (m .samples .result) (g .grow .result) (i .count-on .result) (a .v) (a .self .n + 1) (k .cma-after .result) (entriesOf (a .rows .now)) (entriesOf (g .grow .last .1 .1 .0)) (a .lens .now) (g .grow .last .1 .1 .1 .0)
-    (m .samples .ensures) (i .count-on .ensures) (add-one (a .self .n)) (k .cma-after .ensures) (s .pre .0 .sound) (g .grow .ensures)
+    take-post (a .self) (m .samples .result) (g .grow .result) (i .count-on .result) (a .v) _ (k .cma-after .result) (entriesOf (a .rows .now)) (entriesOf (g .grow .last .1 .1 .0)) (a .lens .now) (g .grow .last .1 .1 .1 .0)
+    (m .samples .ensures) (i .count-on .ensures) (omega arith) (k .cma-after .ensures) (s .pre .0 .sound) (g .grow .ensures)
 
 pub take-spec : {M : Type 1} → statement M
 take-spec =

@@ -1,13 +1,11 @@
 -- `ckms_rows::blocks::seek` meets its contract: the smaller entries are those before the block, and those that a search in it counts.
 -- Assumes nothing.
-use mathlib.Core.Path.{_≡_, ap}
-use Prim.Native.Nat.{ℕ, _+_, _-_, _≤_}
+use Prim.Native.Nat.{_+_, _-_, _≤_}
 use native.Mathlib.Omega.{arith}
-use lib.ListN.{length, getD, take, drop, length-map}
-use Rattle.entries.specs.declared.Entry.{Entry}
-use Rattle.entries.specs.Entry.{entryOf, entriesOf, values}
-use Rattle.entries.specs.Ranks.{below}
-use Rattle.ckms_rows.proofs.Skips.{below-le, seek-none, seek-found, part-sorted}
+use lib.ListN.{length, length-map}
+use Rattle.entries.specs.Entry.{entryOf, entriesOf}
+use Rattle.entries.proofs.Parts.{part-sorted}
+use Rattle.ckms_rows.proofs.Skips.{seek-none, seek-found}
 use borrow.Author.Needs.{needs}
 use Rattle.ckms_rows.proofs.blocks.seek.Statement.{statement}
 use Rattle.ckms_rows.proofs.blocks.seek.Tie as tie
@@ -60,12 +58,10 @@ add-t9 c =
     let p = m .before .before in
     let k = p .before .before in
     let s = k .before .before .before in
-    let r = k .skip .result in
-    let q : r .start + p .place .result - r .start ≡ getD (s .args .lens .now) (r .block) 0 = omega (arith, p .place .ensures .0) in
-    let e : m .smaller .result ≡ below (values (entriesOf (take (getD (s .args .lens .now) (r .block) 0) (drop (r .start) (s .args .rows .now))))) (s .args .x) =
-    rw q at (m .smaller .ensures) in
-    let f = seek-found (s .args .x) (s .args .rows .now) (s .args .lens .now) r (r .start + m .smaller .result) (r .sum + m .smaller .result) (k .skip .ensures) (ap (λ (n : ℕ). r .start + n) e) (ap (λ (n : ℕ). r .sum + n) e) in
-    omega (arith, f .place, below-le (values (entriesOf (s .args .rows .now))) (s .args .x), length-map (entriesOf (s .args .rows .now)) (λ (e : Entry). e .v), s .pre .few, k .skip .ensures .low)
+    let f =
+    seek-found (s .args .x) (s .args .rows .now) (s .args .lens .now) (k .skip .result) (p .place .result) (m .smaller .result) (s .pre)
+    (k .skip .ensures) (p .place .ensures .0) (m .smaller .ensures) in
+    omega (arith, f .1)
 
 add-t18 : tie.Need-add-t18
 add-t18 c =
@@ -73,12 +69,10 @@ add-t18 c =
     let p = m .before .before in
     let k = p .before .before in
     let s = k .before .before .before in
-    let r = k .skip .result in
-    let q : r .start + p .place .result - r .start ≡ getD (s .args .lens .now) (r .block) 0 = omega (arith, p .place .ensures .0) in
-    let e : m .smaller .result ≡ below (values (entriesOf (take (getD (s .args .lens .now) (r .block) 0) (drop (r .start) (s .args .rows .now))))) (s .args .x) =
-    rw q at (m .smaller .ensures) in
-    let f = seek-found (s .args .x) (s .args .rows .now) (s .args .lens .now) r (r .start + m .smaller .result) (r .sum + m .smaller .result) (k .skip .ensures) (ap (λ (n : ℕ). r .start + n) e) (ap (λ (n : ℕ). r .sum + n) e) in
-    omega (arith, f .place, below-le (values (entriesOf (s .args .rows .now))) (s .args .x), length-map (entriesOf (s .args .rows .now)) (λ (e : Entry). e .v), s .pre .few, k .skip .ensures .low)
+    let f =
+    seek-found (s .args .x) (s .args .rows .now) (s .args .lens .now) (k .skip .result) (p .place .result) (m .smaller .result) (s .pre)
+    (k .skip .ensures) (p .place .ensures .0) (m .smaller .ensures) in
+    omega (arith, f .2)
 
 cast-t13 : tie.Need-cast-t13
 cast-t13 c =
@@ -86,12 +80,10 @@ cast-t13 c =
     let p = m .before .before in
     let k = p .before .before in
     let s = k .before .before .before in
-    let r = k .skip .result in
-    let q : r .start + p .place .result - r .start ≡ getD (s .args .lens .now) (r .block) 0 = omega (arith, p .place .ensures .0) in
-    let e : m .smaller .result ≡ below (values (entriesOf (take (getD (s .args .lens .now) (r .block) 0) (drop (r .start) (s .args .rows .now))))) (s .args .x) =
-    rw q at (m .smaller .ensures) in
-    let f = seek-found (s .args .x) (s .args .rows .now) (s .args .lens .now) r (r .start + m .smaller .result) (r .sum + m .smaller .result) (k .skip .ensures) (ap (λ (n : ℕ). r .start + n) e) (ap (λ (n : ℕ). r .sum + n) e) in
-    omega (arith, f .place, below-le (values (entriesOf (s .args .rows .now))) (s .args .x), length-map (entriesOf (s .args .rows .now)) (λ (e : Entry). e .v), s .pre .few, k .skip .ensures .low)
+    let f =
+    seek-found (s .args .x) (s .args .rows .now) (s .args .lens .now) (k .skip .result) (p .place .result) (m .smaller .result) (s .pre)
+    (k .skip .ensures) (p .place .ensures .0) (m .smaller .ensures) in
+    omega (arith, f .2)
 
 returns-2 : tie.Need-returns-2
 returns-2 c =
@@ -99,12 +91,10 @@ returns-2 c =
     let p = m .before .before in
     let k = p .before .before in
     let s = k .before .before .before in
-    let r = k .skip .result in
-    let q : r .start + p .place .result - r .start ≡ getD (s .args .lens .now) (r .block) 0 = omega (arith, p .place .ensures .0) in
-    let e : m .smaller .result ≡ below (values (entriesOf (take (getD (s .args .lens .now) (r .block) 0) (drop (r .start) (s .args .rows .now))))) (s .args .x) =
-    rw q at (m .smaller .ensures) in
-    let f = seek-found (s .args .x) (s .args .rows .now) (s .args .lens .now) r (r .start + m .smaller .result) (r .sum + m .smaller .result) (k .skip .ensures) (ap (λ (n : ℕ). r .start + n) e) (ap (λ (n : ℕ). r .sum + n) e) in
-    f
+    let f =
+    seek-found (s .args .x) (s .args .rows .now) (s .args .lens .now) (k .skip .result) (p .place .result) (m .smaller .result) (s .pre)
+    (k .skip .ensures) (p .place .ensures .0) (m .smaller .ensures) in
+    f .0
 
 pub seek-spec : {M : Type 1} → statement M
 seek-spec =

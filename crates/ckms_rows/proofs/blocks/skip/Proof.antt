@@ -1,12 +1,10 @@
 -- `ckms_rows::blocks::skip` meets its contract: the blocks before `block` were skipped.
 -- Assumes nothing.
-use mathlib.Core.Path.{_≡_, sym}
-use Prim.Native.Nat.{_+_, _-_}
+use Prim.Native.Nat.{_-_}
 use native.Mathlib.Omega.{arith}
 use borrow.Author.Needs.{needs}
-use lib.ListN.{length, getD, take, drop, length-take, length-map}
-use Rattle.entries.specs.Entry.{entryOf, entriesOf, sumG}
-use Rattle.ckms_rows.proofs.Skips.{Searching, search-none, search-here, search-last, search-on}
+use lib.ListN.{length}
+use Rattle.ckms_rows.proofs.Skips.{Searching, search-none, search-here, search-last, search-on, next-fits, next-few}
 use Rattle.ckms_rows.proofs.blocks.skip.Statement.{statement}
 use Rattle.ckms_rows.proofs.blocks.skip.Tie as tie
 
@@ -52,7 +50,8 @@ returns c =
     let l = p .before .before .before in
     let s = l .before .before in
     let a = s .args in
-    search-here (a .x) (a .rows .now) (a .lens .now) (s .pre .0) (l .loop .block) (l .loop .start) (l .loop .sum) (l .loop .inv) (omega arith) (rw (← p .place .ensures .0) (c .if1 .taken))
+    search-here (a .x) (a .rows .now) (a .lens .now) (s .pre .0) (l .loop .block) (l .loop .start) (l .loop .sum) (p .place .result) (l .loop .inv)
+    (p .place .ensures .0) (omega arith) (c .if1 .taken)
 
 add-place : tie.Need-add-place Inv-loop μ-loop
 add-place c = search needs
@@ -85,20 +84,21 @@ part-sum-g-end c =
     let l = p .before .before .before in
     let s = l .before .before in
     let a = s .args in
-    let on = search-on (a .x) (a .rows .now) (a .lens .now) (s .pre .0) (l .loop .block) (l .loop .start) (l .loop .sum) (l .loop .inv) (omega arith) (rw (← p .place .ensures .0) (i .if1 .left)) in
-    let e : getD (a .lens .now) (l .loop .block + 1) 0 ≡ c .place2 .result = sym (c .place2 .ensures .0) in
-    let f = on .fits in
+    let f =
+    next-fits (a .x) (a .rows .now) (a .lens .now) (s .pre .0) (l .loop .block) (l .loop .start) (l .loop .sum) (p .place .result) (l .loop .inv)
+    (p .place .ensures .0) (c .place2 .result) (c .place2 .ensures .0) (omega arith) (i .if1 .left) in
     search needs
 
 sum-g-requires : tie.Need-sum-g-requires Inv-loop μ-loop
 sum-g-requires c κs =
-    let i = c .before .before .before in
+    let q = c .before in
+    let i = q .before .before in
     let p = i .before .before in
     let l = p .before .before .before in
     let s = l .before .before in
     let a = s .args in
-    let on = search-on (a .x) (a .rows .now) (a .lens .now) (s .pre .0) (l .loop .block) (l .loop .start) (l .loop .sum) (l .loop .inv) (omega arith) (rw (← p .place .ensures .0) (i .if1 .left)) in
-    omega (arith, length-take (l .loop .start + p .place .result + c .before .place2 .result - (l .loop .start + p .place .result)) (drop (l .loop .start + p .place .result) (a .rows .now)), on .fits, c .before .place2 .ensures .0, s .pre .0 .few, length-map (a .rows .now) entryOf)
+    next-few (a .x) (a .rows .now) (a .lens .now) (s .pre .0) (l .loop .block) (l .loop .start) (l .loop .sum) (p .place .result) (l .loop .inv)
+    (p .place .ensures .0) (q .place2 .result) (q .place2 .ensures .0) (omega arith) (i .if1 .left)
 
 add-sum : tie.Need-add-sum Inv-loop μ-loop
 add-sum c =
@@ -108,10 +108,9 @@ add-sum c =
     let l = p .before .before .before in
     let s = l .before .before in
     let a = s .args in
-    let on = search-on (a .x) (a .rows .now) (a .lens .now) (s .pre .0) (l .loop .block) (l .loop .start) (l .loop .sum) (l .loop .inv) (omega arith) (rw (← p .place .ensures .0) (i .if1 .left)) in
-    let n : l .loop .start + p .place .result + q .place2 .result - (l .loop .start + p .place .result) ≡ q .place2 .result = omega arith in
-    let g : c .sum-g .result ≡ sumG (entriesOf (take (getD (a .lens .now) (l .loop .block + 1) 0) (drop (l .loop .start + getD (a .lens .now) (l .loop .block) 0) (a .rows .now)))) =
-    rw (n, q .place2 .ensures .0, p .place .ensures .0) at (c .sum-g .ensures) in
+    let on =
+    search-on (a .x) (a .rows .now) (a .lens .now) (s .pre .0) (l .loop .block) (l .loop .start) (l .loop .sum) (p .place .result) (l .loop .inv)
+    (p .place .ensures .0) (q .place2 .result) (q .place2 .ensures .0) (omega arith) (i .if1 .left) (c .sum-g .result) (c .sum-g .ensures) in
     omega (arith, on .low)
 
 add-block : tie.Need-add-block Inv-loop μ-loop
@@ -128,11 +127,8 @@ loop-again c =
     let l = p .before .before .before in
     let s = l .before .before in
     let a = s .args in
-    let on = search-on (a .x) (a .rows .now) (a .lens .now) (s .pre .0) (l .loop .block) (l .loop .start) (l .loop .sum) (l .loop .inv) (omega arith) (rw (← p .place .ensures .0) (i .if1 .left)) in
-    let n : l .loop .start + p .place .result + q .place2 .result - (l .loop .start + p .place .result) ≡ q .place2 .result = omega arith in
-    let g : c .sum-g .result ≡ sumG (entriesOf (take (getD (a .lens .now) (l .loop .block + 1) 0) (drop (l .loop .start + getD (a .lens .now) (l .loop .block) 0) (a .rows .now)))) =
-    rw (n, q .place2 .ensures .0, p .place .ensures .0) at (c .sum-g .ensures) in
-    rw (g, p .place .ensures .0) on
+    search-on (a .x) (a .rows .now) (a .lens .now) (s .pre .0) (l .loop .block) (l .loop .start) (l .loop .sum) (p .place .result) (l .loop .inv)
+    (p .place .ensures .0) (q .place2 .result) (q .place2 .ensures .0) (omega arith) (i .if1 .left) (c .sum-g .result) (c .sum-g .ensures)
 
 returns-2 : tie.Need-returns-2 Inv-loop μ-loop
 returns-2 c =

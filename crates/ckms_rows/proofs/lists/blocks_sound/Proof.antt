@@ -6,7 +6,7 @@ use native.Mathlib.Omega.{arith}
 use borrow.Author.Needs.{needs}
 use lib.ListN.{length, drop}
 use Rattle.ckms_rows.specs.Lists.{blocksSound}
-use Rattle.ckms_rows.proofs.Sounds.{blocks-end, blocks-none, blocks-large, blocks-go}
+use Rattle.ckms_rows.proofs.Sounds.{blocks-done, blocks-none, blocks-large, blocks-go}
 use Rattle.ckms_rows.proofs.lists.blocks_sound.Statement.{statement}
 use Rattle.ckms_rows.proofs.lists.blocks_sound.Tie as tie
 
@@ -71,7 +71,8 @@ returns-3 c =
     let l = c .before .before in
     let a = l .before .before .args in
     let ls = a .lens .now in
-    rw (c .wide2 .ensures .0) (blocks-end (a .size) (a .held) ls (l .loop .i) (l .loop .sum) (blocksSound (a .size) (a .held) 0 ls) (l .loop .inv .2) (omega arith))
+    rw (c .wide2 .ensures .0)
+    (blocks-done (a .size) (a .held) ls (l .loop .i) (l .loop .sum) (blocksSound (a .size) (a .held) 0 ls) (l .loop .inv .2) (omega arith))
 
 pub blocks-sound-spec : {M : Type 1} → statement M
 blocks-sound-spec =

@@ -7,7 +7,7 @@ use borrow.Author.Needs.{needs}
 use lib.ListN.{length, drop}
 use Rattle.entries.specs.Entry.{entriesOf}
 use Rattle.ckms_rows.specs.Lists.{entriesSound}
-use Rattle.ckms_rows.proofs.Sounds.{entries-end, entries-fall, entries-none, entries-large, entries-go}
+use Rattle.ckms_rows.proofs.Sounds.{entries-done, entries-fall, entries-none, entries-large, entries-go}
 use Rattle.ckms_rows.proofs.lists.entries_sound.Statement.{statement}
 use Rattle.ckms_rows.proofs.lists.entries_sound.Tie as tie
 
@@ -94,7 +94,9 @@ returns-4 c =
     let l = c .before .before in
     let a = l .before .args in
     let rows = a .rows .now in
-    rw (c .wide2 .ensures .0) (entries-end (a .most) (a .n) rows (l .loop .i) (l .loop .low) (l .loop .sum) (entriesSound (a .most) (a .n) 0 0 (entriesOf rows)) (l .loop .inv .2) (omega arith))
+    rw (c .wide2 .ensures .0)
+    (entries-done (a .most) (a .n) rows (l .loop .i) (l .loop .low) (l .loop .sum) (entriesSound (a .most) (a .n) 0 0 (entriesOf rows))
+    (l .loop .inv .2) (omega arith))
 
 pub entries-sound-spec : {M : Type 1} → statement M
 entries-sound-spec =

@@ -4,7 +4,8 @@ use mathlib.Core.Path.{_≡_, refl}
 use native.Mathlib.Omega.{arith}
 use lib.ListN.{length, length-map}
 use Rattle.entries.specs.Entry.{entryOf, entriesOf}
-use Rattle.ckms_store.proofs.Works.{rules, slots-are, blocks-few, in-blocks, place-inside, rank-fits, block-there, put-left, put-rows, grown-inside}
+use Rattle.entries.proofs.Layouts.{put-rows}
+use Rattle.ckms_store.proofs.Works.{rules, slots-are, blocks-few, in-blocks, place-inside, rank-fits, block-there, put-left, grown-inside}
 use borrow.Author.Needs.{needs}
 use Rattle.ckms_store.proofs.Store.put.Statement.{statement}
 use Rattle.ckms_store.proofs.Store.put.Tie as tie
@@ -99,10 +100,13 @@ returns c =
     let list = entriesOf (a .rows .now) in
     let lens = a .lens .now in
     let f = rw (p .before .place .ensures .0, p .place2 .ensures .0) at (k .seek .ensures) in
+    let rows =
+    put-rows (k .seek .result .place) (p .before .place .result) (a .v) 1 (i .before .before .new-delta .result) (a .rows .now)
+    (i .insert-at .last .0) (i .insert-at .ensures) in
     put-left (a .self) list lens (s .pre .0) (a .v) (s .pre .1) (k .seek .result) f (i .before .before .new-delta .result) _ (entriesOf (i .insert-at .last .0)) (g .grow .last .0)
     (rw (p .before .place .ensures .0) at (i .before .before .new-delta .ensures))
-    (rw (p .before .place .ensures .0) at (put-rows (k .seek .result .place) (p .before .place .result) (a .v) (i .before .before .new-delta .result) (a .rows .now) (i .insert-at .last .0) (i .insert-at .ensures)))
-    (rw (p .place2 .ensures .0) at (g .grow .ensures)) refl refl refl refl
+    (rw (p .before .place .ensures .0) at rows)
+    (rw (p .place2 .ensures .0) at (g .grow .ensures)) refl (omega arith) (omega arith) refl
 
 pub put-spec : {M : Type 1} → statement M
 put-spec =

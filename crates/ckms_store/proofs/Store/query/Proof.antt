@@ -1,6 +1,7 @@
 -- `ckms_store::Store::query` meets its contract: each refusal in its case, or the walk.
 -- Assumes nothing.
 use mathlib.Core.Path.{sym, _∙_}
+use native.Mathlib.Omega.{arith}
 use Rattle.entries.specs.Entry.{entriesOf}
 use Rattle.ckms_store.specs.declared.Answer.the-variants as answering
 use Rattle.ckms_store.specs.Answers.{queried}
@@ -38,7 +39,7 @@ returns-2 c =
     let list = entriesOf (a .rows .now) in
     let lens = a .lens .now in
     let r = passed (a .self) list lens (sym (t .enum-told .given .1) ∙ k .check .ensures) in
-    query-empty (a .self) list lens (a .q) r (sym (i .before .is-phi .ensures) ∙ i .if1 .taken) (c .if2 .taken)
+    query-empty (a .self) list lens (a .q) r (sym (i .before .is-phi .ensures) ∙ i .if1 .taken) (omega arith)
 
 look-up-requires : tie.Need-look-up-requires
 look-up-requires c κs =

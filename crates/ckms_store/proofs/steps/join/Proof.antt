@@ -5,7 +5,8 @@ use native.Mathlib.Omega.{arith}
 use lib.ListN.{length, take, drop, length-append}
 use lib.Seq.{length-take-le}
 use Rattle.ckms_rows.specs.Join.{joined}
-use Rattle.ckms_store.proofs.Layouts.{count-inside, join-post}
+use Rattle.entries.proofs.Layouts.{count-inside}
+use Rattle.ckms_store.proofs.Layouts.{join-post}
 use borrow.Author.Needs.{needs}
 use Rattle.ckms_store.proofs.steps.join.Statement.{statement}
 use Rattle.ckms_store.proofs.steps.join.Tie as tie

@@ -33,7 +33,8 @@ returns-3 : tie.Need-returns-3
 returns-3 c =
     let s = c .before .before .before in
     let a = s .args in
-    rw (c .inv .ensures ∙ within-true (inv (a .error) (a .rank)) (s .pre .0)) (simp (ne-eqb (a .place) 0 (c .before .before .if1 .left), ne-eqb (a .place) (a .held) (c .before .if2 .left)))
+    simp (ne-eqb (a .place) 0 (c .before .before .if1 .left), ne-eqb (a .place) (a .held) (c .before .if2 .left))
+    (omega (arith, c .inv .ensures ∙ within-true (inv (a .error) (a .rank)) (s .pre .0)))
 
 pub new-delta-spec : {M : Type 1} → statement M
 new-delta-spec =

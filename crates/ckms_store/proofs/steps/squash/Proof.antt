@@ -6,7 +6,8 @@ use lib.ListN.{length, take, drop, length-append, length-map}
 use lib.Seq.{length-take-le}
 use Rattle.entries.specs.Entry.{entryOf, entriesOf}
 use Rattle.ckms_rows.specs.Squash.{squashed}
-use Rattle.ckms_store.proofs.Layouts.{count-inside, squash-post}
+use Rattle.entries.proofs.Layouts.{count-inside}
+use Rattle.ckms_store.proofs.Layouts.{squash-post}
 use borrow.Author.Needs.{needs}
 use Rattle.ckms_store.proofs.steps.squash.Statement.{statement}
 use Rattle.ckms_store.proofs.steps.squash.Tie as tie

@@ -1,7 +1,7 @@
 -- `entries::room::clear_numbers` meets its contract: the places up to i are zeroed after i turns.
 -- Assumes nothing.
-use mathlib.Core.Path.{_≡_, refl, sym, ap, _∙_}
-use Prim.Native.Nat.{ℕ, suc, _+_, _-_, _≤_, _<_}
+use mathlib.Core.Path.{_≡_, refl, ap, _∙_}
+use Prim.Native.Nat.{ℕ, _-_, _≤_}
 use native.Mathlib.Omega.{arith}
 use borrow.Author.Needs.{needs}
 use lib.ListN.{length, length-set}
@@ -37,7 +37,7 @@ loop-again c =
     let a = b .before .args in (
       omega arith,
       omega arith,
-      length-set (b .loop .s) (b .loop .i) 0 ∙ b .loop .inv .2,
+      simp length-set (b .loop .inv .2),
       cleared-turn 0 (a .s .now) (a .from) (b .loop .s) (b .loop .i) (omega arith) (omega arith) (b .loop .inv .3),
     )
 

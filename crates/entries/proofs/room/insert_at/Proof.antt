@@ -1,7 +1,7 @@
 -- `entries::room::insert_at` meets its contract: what stands from i on has moved up by one place.
 -- Assumes nothing.
-use mathlib.Core.Path.{_≡_, refl, sym, ap, _∙_}
-use Prim.Native.Nat.{ℕ, suc, _+_, _-_, _≤_, _<_}
+use mathlib.Core.Path.{_≡_, refl}
+use Prim.Native.Nat.{_-_, _≤_}
 use native.Mathlib.Omega.{arith}
 use borrow.Author.Needs.{needs}
 use mathlib.Core.List.{[]}
@@ -46,7 +46,7 @@ loop-again c =
     let a = b .before .args in (
       omega arith,
       omega arith,
-      length-set (b .loop .rows) (b .loop .i) _ ∙ b .loop .inv .2,
+      simp length-set (b .loop .inv .2),
       shifted-turn [] (a .rows .now) (a .held) (omega arith) (b .loop .rows) (b .loop .i) (omega arith) (omega arith) (b .loop .inv .3),
     )
 
@@ -63,7 +63,8 @@ returns : tie.Need-returns Inv-loop μ-loop
 returns c =
     let b = c .before in
     let a = b .before .args in
-    shifted-done [] (a .rows .now) (a .held) (omega arith) (b .loop .rows) (b .loop .i) (a .pos) (a .row) (omega arith) (omega arith) (omega arith) (b .loop .inv .3)
+    shifted-done [] (a .rows .now) (a .held) (omega arith) (b .loop .rows) (b .loop .i) (a .pos) (a .row)
+    (omega arith) (omega arith) (omega arith) (b .loop .inv .3)
 
 pub insert-at-spec : {M : Type 1} → statement M
 insert-at-spec =

@@ -1,7 +1,7 @@
 -- `entries::room::insert_number` meets its contract: what stands from i on has moved up by one place.
 -- Assumes nothing.
-use mathlib.Core.Path.{_≡_, refl, sym, ap, _∙_}
-use Prim.Native.Nat.{ℕ, suc, _+_, _-_, _≤_, _<_}
+use mathlib.Core.Path.{_≡_, refl}
+use Prim.Native.Nat.{_-_, _≤_}
 use native.Mathlib.Omega.{arith}
 use borrow.Author.Needs.{needs}
 use lib.ListN.{length, length-set}
@@ -45,7 +45,7 @@ loop-again c =
     let a = b .before .args in (
       omega arith,
       omega arith,
-      length-set (b .loop .s) (b .loop .i) _ ∙ b .loop .inv .2,
+      simp length-set (b .loop .inv .2),
       shifted-turn 0 (a .s .now) (a .held) (omega arith) (b .loop .s) (b .loop .i) (omega arith) (omega arith) (b .loop .inv .3),
     )
 
@@ -62,7 +62,8 @@ returns : tie.Need-returns Inv-loop μ-loop
 returns c =
     let b = c .before in
     let a = b .before .args in
-    shifted-done 0 (a .s .now) (a .held) (omega arith) (b .loop .s) (b .loop .i) (a .pos) (a .x) (omega arith) (omega arith) (omega arith) (b .loop .inv .3)
+    shifted-done 0 (a .s .now) (a .held) (omega arith) (b .loop .s) (b .loop .i) (a .pos) (a .x)
+    (omega arith) (omega arith) (omega arith) (b .loop .inv .3)
 
 pub insert-number-spec : {M : Type 1} → statement M
 insert-number-spec =

@@ -1,29 +1,25 @@
 -- `entries::search::smaller` meets its contract: all before `low` are smaller, and none from `high` on.
 -- Assumes nothing.
-use mathlib.Core.Path.{_≡_, refl, sym, ap, _∙_}
-use Prim.Native.Nat.{ℕ, suc, _+_, _-_, _/_, _≤_, _<_}
+use Prim.Native.Nat.{ℕ, _+_, _-_, _/_, _≤_}
 use native.Mathlib.Omega.{arith}
 use borrow.Author.Needs.{needs}
-use mathlib.Core.List.{List, []}
-use lib.ListN.{length, getD, take, drop, drop-of-length-le}
-use lib.Seq.{drop-length}
+use lib.ListN.{length}
 use Rattle.entries.specs.Entry.{entriesOf, values}
 use Rattle.entries.proofs.Maps.{value-at, length-values}
-use Rattle.entries.specs.Ranks.{below}
-use Rattle.entries.proofs.Places.{all-smaller, none-smaller, none-behind, smaller-met}
+use Rattle.entries.proofs.Places.{Narrowed, narrowed-none, narrowed-up, narrowed-down, narrowed-met}
 use Rattle.entries.proofs.search.smaller.Statement.{statement}
 use Rattle.entries.proofs.search.smaller.Tie as tie
 
 abbrev Inv-loop : tie.InvT-loop
-Inv-loop rows x low₀ high₀ low high = (low ≤ high) × (high ≤ length rows) × (below (take low (values (entriesOf rows))) x ≡ low) × (below (drop high (values (entriesOf rows))) x ≡ 0)
+Inv-loop rows x low₀ high₀ low high = (high ≤ length rows) × Narrowed (values (entriesOf rows)) x low high
 
 abbrev μ-loop : tie.MeasureT-loop
 μ-loop rows x low₀ high₀ low high = high - low
 
 loop-holds : tie.Need-loop-holds Inv-loop μ-loop
 loop-holds c =
-    let a = c .args in
-    (omega arith, omega arith, refl, none-behind (values (entriesOf (a .rows .now))) (length (a .rows .now)) (a .x) (omega (arith, length-values (a .rows .now))))
+    let rows = c .args .rows .now in
+    (omega arith, narrowed-none (values (entriesOf rows)) (c .args .x) (length rows) (omega (arith, length-values rows)))
 
 sub-middle : tie.Need-sub-middle Inv-loop μ-loop
 sub-middle c = search needs
@@ -49,9 +45,12 @@ loop-less c = search needs
 loop-again : tie.Need-loop-again Inv-loop μ-loop
 loop-again c =
     let b = c .before .before .before in
-    let a = b .before .args in
-    let m : ℕ = b .loop .low + (b .loop .high - b .loop .low) / 2 in
-    (omega arith, omega arith, all-smaller 0 (values (entriesOf (a .rows .now))) m (a .x) (omega (arith, length-values (a .rows .now))) (b .before .pre) (omega (arith, value-at (a .rows .now) m)), b .loop .inv .3)
+    let rows = b .before .args .rows .now in
+    let m : ℕ = b .loop .low + (b .loop .high - b .loop .low) / 2 in (
+      omega arith,
+      narrowed-up (values (entriesOf rows)) (b .before .args .x) (b .loop .low) (b .loop .high) m (b .loop .inv .1) (b .before .pre)
+          (omega (arith, length-values rows)) (omega arith) (omega (arith, value-at rows m)),
+    )
 
 loop-less-2 : tie.Need-loop-less-2 Inv-loop μ-loop
 loop-less-2 c = search needs
@@ -59,15 +58,17 @@ loop-less-2 c = search needs
 loop-again-2 : tie.Need-loop-again-2 Inv-loop μ-loop
 loop-again-2 c =
     let b = c .before .before .before in
-    let a = b .before .args in
-    let m : ℕ = b .loop .low + (b .loop .high - b .loop .low) / 2 in
-    (omega arith, omega arith, b .loop .inv .2, none-smaller 0 (values (entriesOf (a .rows .now))) m (a .x) (omega (arith, length-values (a .rows .now))) (b .before .pre) (omega (arith, value-at (a .rows .now) m)))
+    let rows = b .before .args .rows .now in
+    let m : ℕ = b .loop .low + (b .loop .high - b .loop .low) / 2 in (
+      omega arith,
+      narrowed-down (values (entriesOf rows)) (b .before .args .x) (b .loop .low) (b .loop .high) m (b .loop .inv .1) (b .before .pre)
+          (omega (arith, length-values rows)) (omega arith) (omega (arith, value-at rows m)),
+    )
 
 returns : tie.Need-returns Inv-loop μ-loop
 returns c =
     let b = c .before in
-    let a = b .before .args in
-    smaller-met (values (entriesOf (a .rows .now))) (b .loop .low) (b .loop .high) (a .x) (omega arith) (b .loop .inv .2) (b .loop .inv .3)
+    narrowed-met (values (entriesOf (b .before .args .rows .now))) (b .before .args .x) (b .loop .low) (b .loop .high) (b .loop .inv .1) (omega arith)
 
 pub smaller-spec : {M : Type 1} → statement M
 smaller-spec =

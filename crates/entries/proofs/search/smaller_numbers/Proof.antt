@@ -1,83 +1,20 @@
--- `entries::search::smaller_numbers` meets its contract: all before `low` are smaller, and none from `high` on.
+-- `entries::search::smaller_numbers` meets its contract: x is as large with more bits.
 -- Assumes nothing.
-use mathlib.Core.Path.{_≡_, refl, sym, ap, _∙_}
-use Prim.Native.Nat.{ℕ, suc, _+_, _-_, _/_, _≤_, _<_}
-use native.Mathlib.Omega.{arith}
+use mathlib.Core.Path.{ap, _∙_}
 use borrow.Author.Needs.{needs}
-use mathlib.Core.List.{List, []}
-use lib.ListN.{length, getD, take, drop, drop-of-length-le}
-use lib.Seq.{drop-length}
 use Rattle.entries.specs.Ranks.{below}
-use Rattle.entries.proofs.Places.{all-smaller, none-smaller, none-behind, smaller-met}
 use Rattle.entries.proofs.search.smaller_numbers.Statement.{statement}
 use Rattle.entries.proofs.search.smaller_numbers.Tie as tie
 
-abbrev Inv-loop : tie.InvT-loop
-Inv-loop s x low₀ high₀ low high = (low ≤ high) × (high ≤ length s) × (below (take low s) x ≡ low) × (below (drop high s) x ≡ 0)
+wide-requires : tie.Need-wide-requires
+wide-requires c κs = search needs
 
-abbrev μ-loop : tie.MeasureT-loop
-μ-loop s x low₀ high₀ low high = high - low
+smaller-than-requires : tie.Need-smaller-than-requires
+smaller-than-requires c κs = search needs
 
-loop-holds : tie.Need-loop-holds Inv-loop μ-loop
-loop-holds c =
-    let a = c .args in
-    (omega arith, omega arith, refl, none-behind (a .s .now) (length (a .s .now)) (a .x) (omega (arith)))
-
-sub-middle : tie.Need-sub-middle Inv-loop μ-loop
-sub-middle c = search needs
-
-add-middle : tie.Need-add-middle Inv-loop μ-loop
-add-middle c = search needs
-
-mul-if1 : tie.Need-mul-if1 Inv-loop μ-loop
-mul-if1 c = search needs
-
-shared-slice-read-if1 : tie.Need-shared-slice-read-if1 Inv-loop μ-loop
-shared-slice-read-if1 c = search needs
-
-add-low : tie.Need-add-low Inv-loop μ-loop
-add-low c = search needs
-
-loop-less : tie.Need-loop-less Inv-loop μ-loop
-loop-less c = search needs
-
-loop-again : tie.Need-loop-again Inv-loop μ-loop
-loop-again c =
-    let b = c .before .before .before in
-    let a = b .before .args in
-    let m : ℕ = b .loop .low + (b .loop .high - b .loop .low) / 2 in
-    (omega arith, omega arith, all-smaller 0 (a .s .now) m (a .x) (omega (arith)) (b .before .pre) (omega (arith)), b .loop .inv .3)
-
-loop-less-2 : tie.Need-loop-less-2 Inv-loop μ-loop
-loop-less-2 c = search needs
-
-loop-again-2 : tie.Need-loop-again-2 Inv-loop μ-loop
-loop-again-2 c =
-    let b = c .before .before .before in
-    let a = b .before .args in
-    let m : ℕ = b .loop .low + (b .loop .high - b .loop .low) / 2 in
-    (omega arith, omega arith, b .loop .inv .2, none-smaller 0 (a .s .now) m (a .x) (omega (arith)) (b .before .pre) (omega (arith)))
-
-returns : tie.Need-returns Inv-loop μ-loop
+returns : tie.Need-returns
 returns c =
-    let b = c .before in
-    let a = b .before .args in
-    smaller-met (a .s .now) (b .loop .low) (b .loop .high) (a .x) (omega arith) (b .loop .inv .2) (b .loop .inv .3)
+    let a = c .before .before .before .args in c .smaller-than .ensures ∙ ap (below (a .s .now)) (c .before .wide .ensures .0)
 
 pub smaller-numbers-spec : {M : Type 1} → statement M
-smaller-numbers-spec =
-    tie.close
-    (tie.spec
-    Inv-loop
-    μ-loop
-    loop-holds
-    sub-middle
-    add-middle
-    mul-if1
-    shared-slice-read-if1
-    add-low
-    loop-less
-    loop-again
-    loop-less-2
-    loop-again-2
-    returns)
+smaller-numbers-spec = tie.close (tie.spec wide-requires smaller-than-requires returns)

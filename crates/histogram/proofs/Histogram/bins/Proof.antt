@@ -1,12 +1,9 @@
 -- `histogram::Histogram::bins` meets its contract, by the cases of the standing.
 -- Assumes nothing.
-use mathlib.Core.Path.{sym, ap, _∙_}
-use mathlib.Core.List.{[]}
+use mathlib.Core.Path.{sym, _∙_}
 use borrow.Author.Needs.{needs}
-use Rattle.histogram.specs.declared.Standing.{Standing}
-use Rattle.histogram.specs.Bins.{binsBetween}
-use Rattle.histogram.specs.Answers.{left}
 use Rattle.histogram.proofs.Cases.{ready}
+use Rattle.histogram.proofs.Answering.{leaves-so, binned, handed}
 use Rattle.histogram.proofs.Histogram.bins.Statement.{statement}
 use Rattle.histogram.proofs.Histogram.bins.Tie as tie
 
@@ -20,9 +17,7 @@ slice-aggregate-result : tie.Need-slice-aggregate-result
 slice-aggregate-result c = search needs
 
 returns : tie.Need-returns
-returns c =
-    let a = c .before .before .before .before .before .before .args in
-    ap (λ (s : Standing). left s (binsBetween (a .bounds .now) (a .counts .now) (a .lower) (a .upper)) []) (sym (c .before .enum-told .given .1) ∙ c .before .before .before .standing .ensures)
+returns c = leaves-so (sym (c .before .enum-told .given .1) ∙ c .before .before .before .standing .ensures) _ _
 
 enum-told-2 : tie.Need-enum-told-2
 enum-told-2 c = search needs
@@ -31,12 +26,13 @@ between-requires : tie.Need-between-requires
 between-requires c κs =
     let a = c .before .before .before .before .before .args in
     let s = ready (a .self) (a .bounds .now) (a .counts .now) (c .before .before .standing .ensures) (c .enum-told2 .given .1) in
-    (s .sound-is .never-fall, s .long)
+    binned s
 
 returns-2 : tie.Need-returns-2
 returns-2 c =
     let a = c .before .before .before .before .before .before .args in
-    c .between .ensures ∙ ap (λ (s : Standing). left s (binsBetween (a .bounds .now) (a .counts .now) (a .lower) (a .upper)) []) (sym (c .before .enum-told2 .given .1) ∙ c .before .before .before .standing .ensures)
+    let s = ready (a .self) (a .bounds .now) (a .counts .now) (c .before .before .before .standing .ensures) (c .before .enum-told2 .given .1) in
+    handed s (a .lower) (a .upper) (c .between .ensures)
 
 pub bins-spec : {M : Type 1} → statement M
 bins-spec =

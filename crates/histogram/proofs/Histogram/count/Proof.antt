@@ -1,9 +1,8 @@
 -- `histogram::Histogram::count` meets its contract, by the cases of the standing.
 -- Assumes nothing.
-use mathlib.Core.Path.{sym, ap, _∙_}
+use mathlib.Core.Path.{sym, _∙_}
 use borrow.Author.Needs.{needs}
-use Rattle.histogram.specs.declared.Standing.{Standing}
-use Rattle.histogram.specs.Answers.{counting}
+use Rattle.histogram.proofs.Answering.{counts-so}
 use Rattle.histogram.proofs.Histogram.count.Statement.{statement}
 use Rattle.histogram.proofs.Histogram.count.Tie as tie
 
@@ -17,14 +16,10 @@ enum-known-standing : tie.Need-enum-known-standing
 enum-known-standing c = search needs
 
 returns : tie.Need-returns
-returns c =
-    let a = c .before .before .before .before .before .args in
-    ap (λ (s : Standing). counting s (a .self .count)) (sym (c .enum-told .given .1) ∙ c .before .before .standing .ensures)
+returns c = counts-so (sym (c .enum-told .given .1) ∙ c .before .before .standing .ensures) _
 
 returns-2 : tie.Need-returns-2
-returns-2 c =
-    let a = c .before .before .before .before .before .before .args in
-    ap (λ (s : Standing). counting s (a .self .count)) (sym (c .before .standing2 .given .1) ∙ c .before .before .before .standing .ensures)
+returns-2 c = counts-so (sym (c .before .standing2 .given .1) ∙ c .before .before .before .standing .ensures) _
 
 pub count-spec : {M : Type 1} → statement M
 count-spec = tie.close (tie.spec standing-requires enum-told enum-known-standing returns returns-2)

@@ -5,8 +5,8 @@ use mathlib.Core.Bool.{true, false}
 use native.Mathlib.Omega.{arith}
 use borrow.Author.Tests.{le-leb, lt-leb, eq-eqb, ne-eqb}
 use borrow.Author.Needs.{needs}
+use Rattle.entries.specs.Total.{total}
 use Rattle.histogram.specs.Bounds.{allowed}
-use Rattle.histogram.specs.Bins.{total}
 use Rattle.histogram.proofs.Sounds.{allowed-means}
 use Rattle.histogram.proofs.Histogram.sound.Statement.{statement}
 use Rattle.histogram.proofs.Histogram.sound.Tie as tie
@@ -31,9 +31,11 @@ wide-requires c κs = search needs
 
 returns-2 : tie.Need-returns-2
 returns-2 c =
-    let a = c .before .before .before .before .before .before .before .before .before .args in
-    let t : allowed (a .bounds .now) ≡ true = sym (c .before .before .before .before .before .before .allowed .ensures) ∙ c .before .before .before .before .before .if1 .taken in
-    let n : total (a .counts .now) ≡ a .self .count → ⊥ = λ e. c .if3 .taken (c .before .before .total .ensures ∙ e ∙ sym (c .before .wide .ensures .0)) in
+    let b = c .before .before .before .before .before in
+    let a = b .before .before .before .before .args in
+    let t : allowed (a .bounds .now) ≡ true = sym (b .before .allowed .ensures) ∙ b .if1 .taken in
+    let n : total (a .counts .now) ≡ a .self .count → ⊥ =
+    λ e. c .if3 .taken (c .before .before .total .ensures ∙ e ∙ sym (c .before .wide .ensures .0)) in
     rw (t, le-leb (a .self .count) 1000000000 (omega arith), ne-eqb (total (a .counts .now)) (a .self .count) n)
 
 sum-sound-requires : tie.Need-sum-sound-requires
@@ -41,9 +43,11 @@ sum-sound-requires c κs = search needs
 
 returns-3 : tie.Need-returns-3
 returns-3 c =
-    let a = c .before .before .before .before .before .before .before .before .before .before .args in
-    let t : allowed (a .bounds .now) ≡ true = sym (c .before .before .before .before .before .before .before .allowed .ensures) ∙ c .before .before .before .before .before .before .if1 .taken in
-    let e : total (a .counts .now) ≡ a .self .count = sym (c .before .before .before .total .ensures) ∙ c .before .if3 .left ∙ c .before .before .wide .ensures .0 in
+    let b = c .before .before .before .before .before .before in
+    let a = b .before .before .before .before .args in
+    let t : allowed (a .bounds .now) ≡ true = sym (b .before .allowed .ensures) ∙ b .if1 .taken in
+    let e : total (a .counts .now) ≡ a .self .count =
+    sym (c .before .before .before .total .ensures) ∙ c .before .if3 .left ∙ c .before .before .wide .ensures .0 in
     rw (t, le-leb (a .self .count) 1000000000 (omega arith), eq-eqb (total (a .counts .now)) (a .self .count) e) (c .sum-sound .ensures)
 
 returns-4 : tie.Need-returns-4

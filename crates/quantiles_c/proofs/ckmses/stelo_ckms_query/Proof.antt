@@ -1,12 +1,6 @@
 -- `quantiles_c::ckmses::stelo_ckms_query` meets its contract: what the core ensures, carried over.
 -- Assumes nothing.
-use mathlib.Core.Path.{ap, _∙_}
 use borrow.Author.Needs.{needs}
-use Rattle.entries.specs.Entry.{entriesOf}
-use Rattle.ckms.specs.Answers.{queried}
-use Rattle.ckms.specs.declared.CKMS.{CKMS}
-use Rattle.quantiles_c.specs.Ckmses.{ckmsOf}
-use Rattle.quantiles_c.specs.Stores.{flatRanked}
 use Rattle.quantiles_c.proofs.ckmses.stelo_ckms_query.Statement.{statement}
 use Rattle.quantiles_c.proofs.ckmses.stelo_ckms_query.Tie as tie
 
@@ -23,14 +17,7 @@ ranked-requires : tie.Need-ranked-requires
 ranked-requires c κs = search needs
 
 returns : tie.Need-returns
-returns c =
-    let a = c .before .before .before .before .before .args in
-    let list = entriesOf (a .list .now) in
-    let q = c .before .before .fraction in
-    c .ranked .ensures
-    ∙ ap flatRanked (c .before .query .ensures
-    ∙ ap (λ (s : CKMS). queried s list (a .blocks .now) (q .result)) (c .before .before .before .ckms .ensures)
-    ∙ ap (queried (ckmsOf (a .ckms)) list (a .blocks .now)) (q .ensures))
+returns c = rw (c .ranked .ensures, c .before .query .ensures, c .before .before .before .ckms .ensures, c .before .before .fraction .ensures)
 
 pub stelo-ckms-query-spec : {M : Type 1} → statement M
 stelo-ckms-query-spec =

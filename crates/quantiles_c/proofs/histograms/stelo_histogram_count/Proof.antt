@@ -1,10 +1,6 @@
 -- `quantiles_c::histograms::stelo_histogram_count` meets its contract: what the core ensures, carried over.
 -- Assumes nothing.
-use mathlib.Core.Path.{ap, _∙_}
 use borrow.Author.Needs.{needs}
-use Rattle.histogram.specs.Answers.{countAnswer}
-use Rattle.histogram.specs.declared.Histogram.{Histogram}
-use Rattle.quantiles_c.specs.Histograms.{flatCounted}
 use Rattle.quantiles_c.proofs.histograms.stelo_histogram_count.Statement.{statement}
 use Rattle.quantiles_c.proofs.histograms.stelo_histogram_count.Tie as tie
 
@@ -18,9 +14,7 @@ counted-requires : tie.Need-counted-requires
 counted-requires c κs = search needs
 
 returns : tie.Need-returns
-returns c =
-    let a = c .before .before .before .before .before .args in
-    c .counted .ensures ∙ ap flatCounted (c .before .count .ensures ∙ ap (λ (h : Histogram). countAnswer h (a .bounds .now) (a .counts .now)) (c .before .before .histogram .ensures))
+returns c = rw (c .counted .ensures, c .before .count .ensures, c .before .before .histogram .ensures)
 
 pub stelo-histogram-count-spec : {M : Type 1} → statement M
 stelo-histogram-count-spec =

@@ -1,9 +1,6 @@
 -- `quantiles_c::histograms::stelo_histogram_insert` meets its contract: what the core ensures, carried over.
 -- Assumes nothing.
-use mathlib.Core.Path.{subst}
 use borrow.Author.Needs.{needs}
-use Rattle.histogram.specs.Contracts.{InsertPost}
-use Rattle.histogram.specs.declared.Histogram.{Histogram}
 use Rattle.quantiles_c.proofs.histograms.stelo_histogram_insert.Statement.{statement}
 use Rattle.quantiles_c.proofs.histograms.stelo_histogram_insert.Tie as tie
 
@@ -21,12 +18,10 @@ same-length c = search needs
 
 returns : tie.Need-returns
 returns c =
-    let a = c .before .before .before .before .before .before .before .before .args in
-    let counts = c .before .before .before .insert .last .1 .1 .0 in
-    let core = c .before .before .before .insert .result in
+    let core = c .before .before .before .insert in
     record {
-      core = core;
-      post = subst (λ (h : Histogram). InsertPost h (a .bounds .now) (a .counts .now) (a .v) core counts) (c .before .before .before .before .before .histogram .ensures) (c .before .before .before .insert .ensures);
+      core = core .result;
+      post = rw (c .before .before .before .before .before .histogram .ensures) at (core .ensures);
       flat = c .inserted .ensures;
     }
 

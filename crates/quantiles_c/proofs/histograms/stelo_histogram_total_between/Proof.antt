@@ -1,11 +1,6 @@
 -- `quantiles_c::histograms::stelo_histogram_total_between` meets its contract: what the core ensures, carried over.
 -- Assumes nothing.
-use mathlib.Core.Path.{ap, _∙_}
 use borrow.Author.Needs.{needs}
-use Rattle.histogram.specs.Answers.{betweenAnswer}
-use Rattle.histogram.specs.declared.Bound.{Bound}
-use Rattle.histogram.specs.declared.Histogram.{Histogram}
-use Rattle.quantiles_c.specs.Histograms.{histogramOf, boundOf, flatCounted}
 use Rattle.quantiles_c.proofs.histograms.stelo_histogram_total_between.Statement.{statement}
 use Rattle.quantiles_c.proofs.histograms.stelo_histogram_total_between.Tie as tie
 
@@ -25,16 +20,13 @@ counted-requires : tie.Need-counted-requires
 counted-requires c κs = search needs
 
 returns : tie.Need-returns
-returns c =
-    let a = c .before .before .before .before .before .before .before .args in
-    let h = c .before .before .before .before .histogram in
-    let l = c .before .before .before .bound in
-    let u = c .before .before .bound2 in
-    c .counted .ensures
-    ∙ ap flatCounted (c .before .total-between .ensures
-    ∙ ap (λ (h : Histogram). betweenAnswer h (a .bounds .now) (a .counts .now) (l .result) (u .result)) (h .ensures)
-    ∙ ap (λ (b : Bound). betweenAnswer (histogramOf (a .histogram)) (a .bounds .now) (a .counts .now) b (u .result)) (l .ensures)
-    ∙ ap (betweenAnswer (histogramOf (a .histogram)) (a .bounds .now) (a .counts .now) (boundOf (a .lower))) (u .ensures))
+returns c = rw (
+  c .counted .ensures,
+  c .before .total-between .ensures,
+  c .before .before .before .before .histogram .ensures,
+  c .before .before .before .bound .ensures,
+  c .before .before .bound2 .ensures,
+)
 
 pub stelo-histogram-total-between-spec : {M : Type 1} → statement M
 stelo-histogram-total-between-spec =

@@ -1,11 +1,6 @@
 -- `quantiles_c::stores::stelo_store_is_empty` meets its contract: what the core ensures, carried over.
 -- Assumes nothing.
-use mathlib.Core.Path.{ap, _∙_}
 use borrow.Author.Needs.{needs}
-use Rattle.entries.specs.Entry.{entriesOf}
-use Rattle.ckms_store.specs.Answers.{emptyOf}
-use Rattle.ckms_store.specs.declared.Store.{Store}
-use Rattle.quantiles_c.specs.Stores.{flatEmpty}
 use Rattle.quantiles_c.proofs.stores.stelo_store_is_empty.Statement.{statement}
 use Rattle.quantiles_c.proofs.stores.stelo_store_is_empty.Tie as tie
 
@@ -19,11 +14,7 @@ emptiness-requires : tie.Need-emptiness-requires
 emptiness-requires c κs = search needs
 
 returns : tie.Need-returns
-returns c =
-    let a = c .before .before .before .before .args in
-    let list = entriesOf (a .list .now) in
-    c .emptiness .ensures
-    ∙ ap flatEmpty (c .before .is-empty .ensures ∙ ap (λ (s : Store). emptyOf s list (a .blocks .now)) (c .before .before .store .ensures))
+returns c = rw (c .emptiness .ensures, c .before .is-empty .ensures, c .before .before .store .ensures)
 
 pub stelo-store-is-empty-spec : {M : Type 1} → statement M
 stelo-store-is-empty-spec =

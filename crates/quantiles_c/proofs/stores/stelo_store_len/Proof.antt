@@ -1,11 +1,6 @@
 -- `quantiles_c::stores::stelo_store_len` meets its contract: what the core ensures, carried over.
 -- Assumes nothing.
-use mathlib.Core.Path.{ap, _∙_}
 use borrow.Author.Needs.{needs}
-use Rattle.entries.specs.Entry.{entriesOf}
-use Rattle.ckms_store.specs.Answers.{lenOf}
-use Rattle.ckms_store.specs.declared.Store.{Store}
-use Rattle.quantiles_c.specs.Stores.{flatLen}
 use Rattle.quantiles_c.proofs.stores.stelo_store_len.Statement.{statement}
 use Rattle.quantiles_c.proofs.stores.stelo_store_len.Tie as tie
 
@@ -19,11 +14,7 @@ length-requires : tie.Need-length-requires
 length-requires c κs = search needs
 
 returns : tie.Need-returns
-returns c =
-    let a = c .before .before .before .before .args in
-    let list = entriesOf (a .list .now) in
-    c .length .ensures
-    ∙ ap flatLen (c .before .len .ensures ∙ ap (λ (s : Store). lenOf s list (a .blocks .now)) (c .before .before .store .ensures))
+returns c = rw (c .length .ensures, c .before .len .ensures, c .before .before .store .ensures)
 
 pub stelo-store-len-spec : {M : Type 1} → statement M
 stelo-store-len-spec = tie.close (tie.spec store-requires len-requires length-requires returns)

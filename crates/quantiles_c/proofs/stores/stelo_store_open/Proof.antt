@@ -1,10 +1,6 @@
 -- `quantiles_c::stores::stelo_store_open` meets its contract: what the core ensures, carried over.
 -- Assumes nothing.
-use mathlib.Core.Path.{subst}
 use borrow.Author.Needs.{needs}
-use Rattle.fraction.specs.declared.Fraction.{Fraction}
-use Rattle.entries.specs.Entry.{entriesOf}
-use Rattle.ckms_store.specs.Posts.{OpenPost}
 use Rattle.quantiles_c.proofs.stores.stelo_store_open.Statement.{statement}
 use Rattle.quantiles_c.proofs.stores.stelo_store_open.Tie as tie
 
@@ -25,13 +21,10 @@ same-length-2 c = search needs
 
 returns : tie.Need-returns
 returns c =
-    let a = c .before .before .before .before .before .before .before .before .before .args in
-    let list = entriesOf (c .before .before .before .before .«open» .last .1 .1 .0) in
-    let blocks = c .before .before .before .before .«open» .last .1 .1 .1 .0 in
-    let core = c .before .before .before .before .«open» .result in
+    let core = c .before .before .before .before .«open» in
     record {
-      core = core;
-      post = subst (λ (s : Fraction). OpenPost s (a .block) (entriesOf (a .list .now)) (a .blocks .now) core list blocks) (c .before .before .before .before .before .before .before .fraction .ensures) (c .before .before .before .before .«open» .ensures);
+      core = core .result;
+      post = rw (c .before .before .before .before .before .before .before .fraction .ensures) at (core .ensures);
       flat = c .opened .ensures;
     }
 

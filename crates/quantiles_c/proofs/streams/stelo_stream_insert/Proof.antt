@@ -1,10 +1,6 @@
 -- `quantiles_c::streams::stelo_stream_insert` meets its contract: what the core ensures, carried over.
 -- Assumes nothing.
-use mathlib.Core.Path.{subst}
 use borrow.Author.Needs.{needs}
-use Rattle.entries.specs.Entry.{entriesOf}
-use Rattle.greenwald_khanna.specs.Posts.{InsertPost}
-use Rattle.greenwald_khanna.specs.declared.Stream.{Stream}
 use Rattle.quantiles_c.proofs.streams.stelo_stream_insert.Statement.{statement}
 use Rattle.quantiles_c.proofs.streams.stelo_stream_insert.Tie as tie
 
@@ -22,12 +18,10 @@ same-length c = search needs
 
 returns : tie.Need-returns
 returns c =
-    let a = c .before .before .before .before .before .args in
-    let list = entriesOf (c .before .before .insert .last .1 .0) in
-    let core = c .before .before .insert .result in
+    let core = c .before .before .insert in
     record {
-      core = core;
-      post = subst (λ (s : Stream). InsertPost s (entriesOf (a .list .now)) (a .v) core list) (c .before .before .before .before .stream .ensures) (c .before .before .insert .ensures);
+      core = core .result;
+      post = rw (c .before .before .before .before .stream .ensures) at (core .ensures);
       flat = c .inserted .ensures;
     }
 

@@ -1,10 +1,6 @@
 -- `quantiles_c::streams::stelo_stream_open` meets its contract: what the core ensures, carried over.
 -- Assumes nothing.
-use mathlib.Core.Path.{subst}
 use borrow.Author.Needs.{needs}
-use Rattle.fraction.specs.declared.Fraction.{Fraction}
-use Rattle.entries.specs.Entry.{entriesOf}
-use Rattle.greenwald_khanna.specs.Posts.{OpenPost}
 use Rattle.quantiles_c.proofs.streams.stelo_stream_open.Statement.{statement}
 use Rattle.quantiles_c.proofs.streams.stelo_stream_open.Tie as tie
 
@@ -22,12 +18,10 @@ same-length c = search needs
 
 returns : tie.Need-returns
 returns c =
-    let a = c .before .before .before .before .before .args in
-    let list = entriesOf (c .before .before .«open» .last .1 .0) in
-    let core = c .before .before .«open» .result in
+    let core = c .before .before .«open» in
     record {
-      core = core;
-      post = subst (λ (f : Fraction). OpenPost f (entriesOf (a .list .now)) core list) (c .before .before .before .before .fraction .ensures) (c .before .before .«open» .ensures);
+      core = core .result;
+      post = rw (c .before .before .before .before .fraction .ensures) at (core .ensures);
       flat = c .opened .ensures;
     }
 

@@ -1,12 +1,6 @@
 -- `quantiles_c::streams::stelo_stream_quantile` meets its contract: what the core ensures, carried over.
 -- Assumes nothing.
-use mathlib.Core.Path.{subst}
 use borrow.Author.Needs.{needs}
-use Rattle.fraction.specs.declared.Fraction.{Fraction}
-use Rattle.entries.specs.Entry.{entriesOf}
-use Rattle.greenwald_khanna.specs.Posts.{QuantilePost}
-use Rattle.greenwald_khanna.specs.declared.Stream.{Stream}
-use Rattle.quantiles_c.specs.Streams.{streamOf}
 use Rattle.quantiles_c.proofs.streams.stelo_stream_quantile.Statement.{statement}
 use Rattle.quantiles_c.proofs.streams.stelo_stream_quantile.Tie as tie
 
@@ -24,13 +18,10 @@ told-requires c κs = search needs
 
 returns : tie.Need-returns
 returns c =
-    let a = c .before .before .before .before .args in
-    let list = entriesOf (a .list .now) in
-    let core = c .before .quantile .result in
-    let post = subst (λ (s : Stream). QuantilePost s list (c .before .before .fraction .result) core) (c .before .before .before .stream .ensures) (c .before .quantile .ensures) in
+    let core = c .before .quantile in
     record {
-      core = core;
-      post = subst (λ (f : Fraction). QuantilePost (streamOf (a .stream)) list f core) (c .before .before .fraction .ensures) post;
+      core = core .result;
+      post = rw (c .before .before .before .stream .ensures, c .before .before .fraction .ensures) at (core .ensures);
       flat = c .told .ensures;
     }
 

@@ -1,11 +1,6 @@
 -- `quantiles_c::streams::stelo_stream_s` meets its contract: what the core ensures, carried over.
 -- Assumes nothing.
-use mathlib.Core.Path.{ap, _∙_}
 use borrow.Author.Needs.{needs}
-use Rattle.entries.specs.Entry.{entriesOf}
-use Rattle.greenwald_khanna.specs.Answers.{toldS}
-use Rattle.greenwald_khanna.specs.declared.Stream.{Stream}
-use Rattle.quantiles_c.specs.Streams.{flatAnswer}
 use Rattle.quantiles_c.proofs.streams.stelo_stream_s.Statement.{statement}
 use Rattle.quantiles_c.proofs.streams.stelo_stream_s.Tie as tie
 
@@ -19,9 +14,7 @@ told-requires : tie.Need-told-requires
 told-requires c κs = search needs
 
 returns : tie.Need-returns
-returns c =
-    let list = entriesOf (c .before .before .before .args .list .now) in
-    c .told .ensures ∙ ap flatAnswer (c .before .s .ensures ∙ ap (λ (s : Stream). toldS s list) (c .before .before .stream .ensures))
+returns c = rw (c .told .ensures, c .before .s .ensures, c .before .before .stream .ensures)
 
 pub stelo-stream-s-spec : {M : Type 1} → statement M
 stelo-stream-s-spec = tie.close (tie.spec stream-requires s-requires told-requires returns)

@@ -1,0 +1,18 @@
+-- The readings, by computation. Files are checked in the order of their names: where a definition is wrong, its reading is refused first.
+-- Assumes nothing.
+use mathlib.Core.Path.{refl}
+use lib.Ieee.{add, sub, div, ofInt}
+use Rattle.ckms_rows.specs.Blocks.{blockOf, rankOf, grown}
+use Rattle.ckms_rows.specs.Join.{join, joined}
+use Rattle.ckms_rows.specs.Lists.{entriesSound, blocksSound}
+use Rattle.ckms_rows.specs.Squash.{squash, stays, squashed, marks, kept}
+use Rattle.ckms_rows.specs.Walk.{walk, lookUp}
+use Rattle.ckms_store.specs.Answers as store
+use Rattle.ckms_store.specs.Held.{newDelta, put, tidy}
+use Rattle.ckms_store.specs.Sound.{sound}
+use Rattle.ckms.specs.Answers.{inserted, queried, cmaOf}
+use Rattle.ckms.specs.Readings.{run, CkmsReadings}
+
+pub computed : CkmsReadings
+unfolding add sub div ofInt blockOf rankOf grown join joined entriesSound blocksSound squash stays squashed marks kept walk lookUp newDelta put tidy sound store.queried inserted queried cmaOf run
+computed = record { entries-10 = refl; blocks-10 = refl; query-10 = refl; mean-12 = refl; infinite-mean = refl }

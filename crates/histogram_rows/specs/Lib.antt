@@ -1,0 +1,3 @@
+pub mod Bounds
+pub mod Bins
+pub mod Laws

@@ -1,0 +1,68 @@
+-- `say::list` is safe and ends: i rises to the end of the numbers.
+-- Assumes nothing.
+use Prim.Native.Nat.{_-_, _≤_}
+use lib.ListN.{length}
+use borrow.Author.Needs.{needs}
+use Rattle.say.proofs.list.Statement.{statement}
+use Rattle.say.proofs.list.Tie as tie
+
+abbrev Inv-loop : tie.InvT-loop
+Inv-loop text between numbers i₀ t5 i = i ≤ length numbers
+
+abbrev μ-loop : tie.MeasureT-loop
+μ-loop text between numbers i₀ t5 i = length numbers - i
+
+words-requires : tie.Need-words-requires Inv-loop μ-loop
+words-requires c κs = search needs
+
+loop-holds : tie.Need-loop-holds Inv-loop μ-loop
+loop-holds c = search needs
+
+words-requires-2 : tie.Need-words-requires-2 Inv-loop μ-loop
+words-requires-2 c κs = search needs
+
+mul-number : tie.Need-mul-number Inv-loop μ-loop
+mul-number c = search needs
+
+shared-slice-read-number : tie.Need-shared-slice-read-number Inv-loop μ-loop
+shared-slice-read-number c = search needs
+
+number-requires : tie.Need-number-requires Inv-loop μ-loop
+number-requires c κs = search needs
+
+add-i : tie.Need-add-i Inv-loop μ-loop
+add-i c = search needs
+
+loop-less : tie.Need-loop-less Inv-loop μ-loop
+loop-less c = search needs
+
+loop-again : tie.Need-loop-again Inv-loop μ-loop
+loop-again c = search needs
+
+slice-aggregate-words : tie.Need-slice-aggregate-words Inv-loop μ-loop
+slice-aggregate-words c = search needs
+
+words-requires-3 : tie.Need-words-requires-3 Inv-loop μ-loop
+words-requires-3 c κs = search needs
+
+returns : tie.Need-returns Inv-loop μ-loop
+returns c = search needs
+
+pub list-spec : {M : Type 1} → statement M
+list-spec =
+    tie.close
+    (tie.spec
+    Inv-loop
+    μ-loop
+    words-requires
+    loop-holds
+    words-requires-2
+    mul-number
+    shared-slice-read-number
+    number-requires
+    add-i
+    loop-less
+    loop-again
+    slice-aggregate-words
+    words-requires-3
+    returns)
