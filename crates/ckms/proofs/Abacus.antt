@@ -2,14 +2,14 @@
 -- Assumes nothing.
 use mathlib.Core.Path.{refl}
 use lib.Ieee.{add, sub, div, ofInt}
-use Rattle.ckms_rows.specs.Blocks.{blockOf, rankOf, grown}
-use Rattle.ckms_rows.specs.Join.{join, joined}
-use Rattle.ckms_rows.specs.Lists.{entriesSound, blocksSound}
-use Rattle.ckms_rows.specs.Squash.{squash, stays, squashed, marks, kept}
-use Rattle.ckms_rows.specs.Walk.{walk, lookUp}
+use Rattle.ckms_theory.specs.Blocks.{blockOf, rankOf, grown}
+use Rattle.ckms_theory.specs.Join.{join, joined}
+use Rattle.ckms_theory.specs.Lists.{entriesSound, blocksSound}
+use Rattle.ckms_theory.specs.Squash.{squash, stays, squashed, marks, kept}
+use Rattle.ckms_theory.specs.Walk.{walk, lookUp}
 use Rattle.ckms_store.specs.Answers as store
-use Rattle.ckms_store.specs.Held.{newDelta, put, tidy}
-use Rattle.ckms_store.specs.Sound.{sound}
+use Rattle.ckms_store_steps.specs.Held.{newDelta, put, tidy}
+use Rattle.ckms_store_steps.specs.Sound.{sound}
 use Rattle.ckms.specs.Answers.{inserted, queried, cmaOf}
 use Rattle.ckms.specs.Readings.{run, CkmsReadings}
 

@@ -17,31 +17,32 @@ use Rattle.entries.proofs.Choose.{by-order}
 use Rattle.entries.proofs.Guards.{differ, refused, passed, neither, both-passed, first-refused, second-refused}
 use Rattle.mean.specs.declared.Mean.{Mean}
 use Rattle.mean.specs.Mean.{finite}
-use Rattle.ckms_store.specs.declared.Checked.the-variants as checking
+use Rattle.ckms_store_steps.specs.declared.Checked.the-variants as checking
 use Rattle.ckms_store.specs.declared.Answer.the-variants as answering
-use Rattle.ckms_store.specs.Limits.{observations, slotsOk}
-use Rattle.ckms_store.specs.Sound as sounding
+use Rattle.ckms_store_steps.specs.Limits.{observations, slotsOk}
+use Rattle.ckms_store_steps.specs.Sound as sounding
 use Rattle.ckms_store.proofs.Exactly as store
-use Rattle.ckms_store.proofs.Tested.{same-refusals}
-use Rattle.ckms_store.proofs.Sounds.{sound-rules, rules-sound}
-use Rattle.ckms.specs.declared.CKMS.{CKMS}
-use Rattle.ckms.specs.declared.Last.{Last}
-use Rattle.ckms.specs.declared.Last.the-variants as last
-use Rattle.ckms.specs.declared.Cma.{Cma}
-use Rattle.ckms.specs.declared.Cma.the-variants as cma
+use Rattle.ckms_store_steps.proofs.Tested.{same-refusals}
+use Rattle.ckms_store_steps.proofs.Sounds.{sound-rules, rules-sound}
+use Rattle.ckms_steps.specs.declared.CKMS.{CKMS}
+use Rattle.ckms_steps.specs.declared.Last.{Last}
+use Rattle.ckms_steps.specs.declared.Last.the-variants as last
+use Rattle.ckms_steps.specs.declared.Cma.{Cma}
+use Rattle.ckms_steps.specs.declared.Cma.the-variants as cma
+use Rattle.ckms_steps.specs.State.{samples, modulus, lastSound, cmaSound, recordSound, sound}
+use Rattle.ckms_steps.specs.Steps.{tested, checked, takenIn, stateOf, Ready}
+use Rattle.ckms_steps.proofs.States.{is-true, true-is}
+use Rattle.ckms_steps.proofs.Takes.{sound-parts, store-ready}
 use Rattle.ckms.specs.declared.Inserted.the-variants as inserting
 use Rattle.ckms.specs.declared.Counted.the-variants as counting
 use Rattle.ckms.specs.declared.LastIn.the-variants as telling
 use Rattle.ckms.specs.declared.Average.the-variants as averaging
 use Rattle.ckms.specs.declared.ErrorBound.the-variants as bounding
-use Rattle.ckms.specs.State.{samples, modulus, lastSound, cmaSound, recordSound, sound}
-use Rattle.ckms.specs.Answers.{fresh, opened, tested, checked, takenIn, stateOf, inserted, queried, countOf, lastOf, cmaOf, errorOf}
+use Rattle.ckms_steps.specs.Opening.{fresh, opened}
+use Rattle.ckms.specs.Answers.{inserted, queried, countOf, lastOf, cmaOf, errorOf}
 use Rattle.ckms.specs.Promises.{Rules, SoundExactly}
 use Rattle.ckms.specs.Refusals.{OpenExactly, CheckExactly, InsertExactly, QueryExactly}
-use Rattle.ckms.specs.Steps.{Ready}
 use Rattle.ckms.proofs.Calls.{own}
-use Rattle.ckms.proofs.States.{is-true, true-is}
-use Rattle.ckms.proofs.Takes.{sound-parts, store-ready}
 
 pub open-exactly : (error : Fraction) (list : List Entry) (lens : List ℕ) → OpenExactly error list lens
 unfolding opened

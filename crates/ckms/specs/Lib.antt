@@ -3,5 +3,3 @@ pub mod Posts
 pub mod Promises
 pub mod Readings
 pub mod Refusals
-pub mod State
-pub mod Steps

@@ -7,19 +7,12 @@ use mathlib.Core.List.{List}
 use Rattle.fraction.specs.declared.Fraction.{Fraction}
 use Rattle.entries.specs.declared.Entry.{Entry}
 use Rattle.entries.specs.Entry.{zeroEntry}
-use Rattle.ckms.specs.declared.CKMS.{CKMS}
-use Rattle.ckms.specs.declared.Opened.{Opened}
-use Rattle.ckms.specs.declared.Opened.the-variants.{Open}
+use Rattle.ckms_steps.specs.declared.CKMS.{CKMS}
+use Rattle.ckms_steps.specs.State.{cmaInRange, sound}
+use Rattle.ckms_steps.specs.Steps.{newList, newLens}
 use Rattle.ckms.specs.declared.Inserted.{Inserted}
 use Rattle.ckms.specs.declared.Inserted.the-variants.{Taken}
-use Rattle.ckms.specs.State.{cmaInRange, sound}
-use Rattle.ckms.specs.Answers.{opened, zeroedBy, inserted, leftBy, newList, newLens}
-
-pub record OpenPost (error : Fraction) (list : List Entry) (lens : List ℕ) (answer : Opened) (list′ : List Entry) (lens′ : List ℕ) : Type 0 where
-  pub answered : answer ≡ opened error list lens
-  pub entries : list′ ≡ zeroedBy (opened error list lens) zeroEntry list
-  pub blocks : lens′ ≡ zeroedBy (opened error list lens) 0 lens
-  pub fresh : (c : CKMS) → answer ≡ Open c → sound c list′ lens′ ≡ true
+use Rattle.ckms.specs.Answers.{inserted, leftBy}
 
 pub record InsertPost (c : CKMS) (list : List Entry) (lens : List ℕ) (x : ℕ) (answer : Inserted) (list′ : List Entry) (lens′ : List ℕ) : Type 0 where
   pub answered : answer ≡ inserted c list lens x

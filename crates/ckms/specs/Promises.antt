@@ -12,14 +12,15 @@ use Rattle.entries.specs.Entry.{entriesOf}
 use Rattle.entries.specs.Promises.{Threes}
 use Rattle.mean.specs.declared.Mean.{Mean}
 use Rattle.mean.specs.Mean.{finite}
-use Rattle.ckms_store.specs.Sound as store
-use Rattle.ckms.specs.declared.CKMS.{CKMS}
-use Rattle.ckms.specs.declared.Last.the-variants as last
-use Rattle.ckms.specs.declared.Cma.the-variants as cma
-use Rattle.ckms.specs.declared.Opened.{Opened}
+use Rattle.ckms_store_steps.specs.Sound as store
+use Rattle.ckms_steps.specs.declared.CKMS.{CKMS}
+use Rattle.ckms_steps.specs.declared.Last.the-variants as last
+use Rattle.ckms_steps.specs.declared.Cma.the-variants as cma
+use Rattle.ckms_steps.specs.State.{samples, modulus, sound}
+use Rattle.ckms_steps.specs.declared.Opened.{Opened}
 use Rattle.ckms.specs.declared.Inserted.{Inserted}
-use Rattle.ckms.specs.State.{samples, modulus, sound}
-use Rattle.ckms.specs.Posts.{OpenPost, InsertPost}
+use Rattle.ckms_steps.specs.Opening.{OpenPost}
+use Rattle.ckms.specs.Posts.{InsertPost}
 use Rattle.ckms.specs.Readings.{CkmsReadings}
 use Rattle.ckms.specs.Refusals.{OpenExactly, CheckExactly, InsertExactly, QueryExactly}
 

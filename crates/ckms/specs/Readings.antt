@@ -10,15 +10,17 @@ use lib.ListN.{replicate}
 use Rattle.fraction.specs.declared.Fraction.{Fraction}
 use Rattle.entries.specs.declared.Entry.{Entry}
 use Rattle.entries.specs.Entry.{entry, zeroEntry}
-use Rattle.ckms_rows.specs.Walk.{ranked}
+use Rattle.ckms_theory.specs.Walk.{ranked}
 use Rattle.ckms_store.specs.declared.Answer.the-variants as answering
-use Rattle.ckms.specs.declared.CKMS.{CKMS}
-use Rattle.ckms.specs.declared.Cma.the-variants as cma
+use Rattle.ckms_steps.specs.declared.CKMS.{CKMS}
+use Rattle.ckms_steps.specs.declared.Cma.the-variants as cma
+use Rattle.ckms_steps.specs.State.{cmaSound}
+use Rattle.ckms_steps.specs.Steps.{newList, newLens}
 use Rattle.ckms.specs.declared.Inserted.{Inserted}
 use Rattle.ckms.specs.declared.Inserted.the-variants as inserting
 use Rattle.ckms.specs.declared.Average.the-variants as averaging
-use Rattle.ckms.specs.State.{cmaSound}
-use Rattle.ckms.specs.Answers.{fresh, inserted, leftBy, newList, newLens, queried, cmaOf}
+use Rattle.ckms_steps.specs.Opening.{fresh}
+use Rattle.ckms.specs.Answers.{inserted, leftBy, queried, cmaOf}
 
 -- num / den
 abbrev pub over : ℕ → ℕ → Fraction

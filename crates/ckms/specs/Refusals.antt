@@ -11,20 +11,21 @@ use Rattle.refusal.specs.declared.Refusal.the-variants.{Slots, Epsilon, Damaged
 use Rattle.fraction.specs.declared.Fraction.{Fraction}
 use Rattle.fraction.specs.Allowed.{isPhi, isError}
 use Rattle.entries.specs.declared.Entry.{Entry}
-use Rattle.ckms_rows.specs.declared.walk.Ranked.{Ranked}
-use Rattle.ckms_store.specs.declared.Checked.the-variants as checking
+use Rattle.ckms_theory.specs.declared.Ranked.{Ranked}
+use Rattle.ckms_store_steps.specs.declared.Checked.the-variants as checking
 use Rattle.ckms_store.specs.declared.Answer.the-variants as answering
-use Rattle.ckms_store.specs.Limits.{observations, slotsOk}
-use Rattle.ckms.specs.declared.CKMS.{CKMS}
-use Rattle.ckms.specs.declared.Opened.the-variants as opening
+use Rattle.ckms_store_steps.specs.Limits.{observations, slotsOk}
+use Rattle.ckms_steps.specs.declared.CKMS.{CKMS}
+use Rattle.ckms_steps.specs.State.{sound}
+use Rattle.ckms_steps.specs.Steps.{checked, Ready}
+use Rattle.ckms_steps.specs.declared.Opened.the-variants as opening
 use Rattle.ckms.specs.declared.Inserted.the-variants as inserting
 use Rattle.ckms.specs.declared.Counted.the-variants as counting
 use Rattle.ckms.specs.declared.LastIn.the-variants as telling
 use Rattle.ckms.specs.declared.Average.the-variants as averaging
 use Rattle.ckms.specs.declared.ErrorBound.the-variants as bounding
-use Rattle.ckms.specs.State.{sound}
-use Rattle.ckms.specs.Answers.{opened, checked, inserted, queried, countOf, lastOf, cmaOf, errorOf}
-use Rattle.ckms.specs.Steps.{Ready}
+use Rattle.ckms_steps.specs.Opening.{opened}
+use Rattle.ckms.specs.Answers.{inserted, queried, countOf, lastOf, cmaOf, errorOf}
 
 pub record OpenExactly (error : Fraction) (list : List Entry) (lens : List ℕ) : Type 0 where
   pub slots : opened error list lens ≡ opening.Refused Slots ↔ slotsOk (length list) (length lens) ≡ false

@@ -91,7 +91,7 @@ fn fill(start: CKMS, rows: &mut [[u32; 3]], lens: &mut [u32], end: u32) -> CKMS 
     let mut v = 0;
     while v < end {
         v += 1;
-        let answer = c.insert(rows, lens, v);
+        let answer = ckms::insert(c, rows, lens, v);
         let Inserted::Taken(next) = answer else {
             return c;
         };
@@ -109,8 +109,9 @@ fn reading_13() {
         return;
     };
     let c = fill(fresh, &mut rows, &mut lens, 1000);
-    say_answer(c.query(&rows, &lens, Fraction { num: 0, den: 1 }));
-    say_answer(c.query(
+    say_answer(ckms::query(c, &rows, &lens, Fraction { num: 0, den: 1 }));
+    say_answer(ckms::query(
+        c,
         &rows,
         &lens,
         Fraction {
@@ -118,7 +119,8 @@ fn reading_13() {
             den: 1000,
         },
     ));
-    say_answer(c.query(
+    say_answer(ckms::query(
+        c,
         &rows,
         &lens,
         Fraction {
@@ -126,9 +128,9 @@ fn reading_13() {
             den: 1000,
         },
     ));
-    say_answer(c.query(&rows, &lens, Fraction { num: 1, den: 1 }));
-    say_count(c.count(&rows, &lens));
-    say_last(c.last(&rows, &lens));
+    say_answer(ckms::query(c, &rows, &lens, Fraction { num: 1, den: 1 }));
+    say_count(ckms::count(c, &rows, &lens));
+    say_last(ckms::last(c, &rows, &lens));
 }
 
 // Reading 10: error 1/2, 1 2 3. The lent lists are not zero before opening, and a fresh CKMS has no last value and no mean.
@@ -139,15 +141,15 @@ fn reading_10() {
     let Opened::Open(fresh) = opened else {
         return;
     };
-    say_count(fresh.count(&rows, &lens));
-    say_last(fresh.last(&rows, &lens));
-    say_cma(fresh.cma(&rows, &lens), 0);
-    say_answer(fresh.query(&rows, &lens, Fraction { num: 1, den: 1 }));
+    say_count(ckms::count(fresh, &rows, &lens));
+    say_last(ckms::last(fresh, &rows, &lens));
+    say_cma(ckms::cma(fresh, &rows, &lens), 0);
+    say_answer(ckms::query(fresh, &rows, &lens, Fraction { num: 1, den: 1 }));
     let c = fill(fresh, &mut rows, &mut lens, 3);
     say::rows(b"", &rows);
-    say_answer(c.query(&rows, &lens, Fraction { num: 1, den: 1 }));
-    say_answer(c.query(&rows, &lens, Fraction { num: 2, den: 1 }));
-    say_cma(c.cma(&rows, &lens), 2);
+    say_answer(ckms::query(c, &rows, &lens, Fraction { num: 1, den: 1 }));
+    say_answer(ckms::query(c, &rows, &lens, Fraction { num: 2, den: 1 }));
+    say_cma(ckms::cma(c, &rows, &lens), 2);
 }
 
 // Reading 12: the running mean of 0, 100 is 50. The error is given back as opened.
@@ -158,17 +160,17 @@ fn reading_12() {
     let Opened::Open(fresh) = opened else {
         return;
     };
-    let first = fresh.insert(&mut rows, &mut lens, 0);
+    let first = ckms::insert(fresh, &mut rows, &mut lens, 0);
     let Inserted::Taken(one) = first else {
         return;
     };
-    let second = one.insert(&mut rows, &mut lens, 100);
+    let second = ckms::insert(one, &mut rows, &mut lens, 100);
     let Inserted::Taken(two) = second else {
         return;
     };
-    say_cma(two.cma(&rows, &lens), 50);
-    say_cma(two.cma(&rows, &lens), 51);
-    say_error(two.error_bound(&rows, &lens));
+    say_cma(ckms::cma(two, &rows, &lens), 50);
+    say_cma(ckms::cma(two, &rows, &lens), 51);
+    say_error(ckms::error_bound(two, &rows, &lens));
 }
 
 // One entry that stands for all but one of the observations: one insert more is taken, and the next is refused.
@@ -186,14 +188,14 @@ fn count() {
         last_in: Last::Value(5),
         cma: Cma::Value(Mean { value: 5.0 }),
     };
-    let answer = c.insert(&mut rows, &mut lens, 5);
+    let answer = ckms::insert(c, &mut rows, &mut lens, 5);
     say_inserted(answer);
     let Inserted::Taken(full) = answer else {
         return;
     };
-    say_inserted(full.insert(&mut rows, &mut lens, 9));
+    say_inserted(ckms::insert(full, &mut rows, &mut lens, 9));
     say::rows(b"", &rows);
-    say_cma(full.cma(&rows, &lens), 5);
+    say_cma(ckms::cma(full, &rows, &lens), 5);
 }
 
 // A state with these three words, over one entry that stands for one observation.
@@ -225,7 +227,7 @@ fn full() {
     let mut rows = [[5u32, 1, 0]; 1];
     let mut lens = [1u32; 1];
     let c = state(0, Last::Value(5), Cma::Value(Mean { value: 5.0 }));
-    say_inserted(c.insert(&mut rows, &mut lens, 6));
+    say_inserted(ckms::insert(c, &mut rows, &mut lens, 6));
 }
 
 // DAMAGED: the counter at its modulus, no last value, no mean, an infinite mean; SLOTS before it; and no refusal.
@@ -236,12 +238,15 @@ fn damaged() {
     let half = Fraction { num: 1, den: 2 };
     let five = Cma::Value(Mean { value: 5.0 });
     let infinite = Cma::Value(Mean { value: 1.0 / 0.0 });
-    say_count(state(1, Last::Value(5), five).count(&rows, &lens));
-    say_last(state(0, Last::Nothing, five).last(&rows, &lens));
-    say_cma(state(0, Last::Value(5), Cma::Nothing).cma(&rows, &lens), 5);
-    say_answer(state(0, Last::Value(5), infinite).query(&rows, &lens, half));
-    say_answer(state(0, Last::Value(5), infinite).query(&rows, &longer, half));
-    say_answer(state(0, Last::Value(5), five).query(&rows, &lens, half));
+    say_count(ckms::count(state(1, Last::Value(5), five), &rows, &lens));
+    say_last(ckms::last(state(0, Last::Nothing, five), &rows, &lens));
+    say_cma(
+        ckms::cma(state(0, Last::Value(5), Cma::Nothing), &rows, &lens),
+        5,
+    );
+    say_answer(ckms::query(state(0, Last::Value(5), infinite), &rows, &lens, half));
+    say_answer(ckms::query(state(0, Last::Value(5), infinite), &rows, &longer, half));
+    say_answer(ckms::query(state(0, Last::Value(5), five), &rows, &lens, half));
 }
 
 fn main() {

@@ -11,7 +11,7 @@ use lib.ListN.{length, getD, drop, drop-of-length-le}
 use lib.Seq.{drop-cons}
 use Rattle.entries.specs.Entry.{entriesOf}
 use Rattle.entries.proofs.Parts.{entryAt, entries-from, entries-end}
-use Rattle.ckms_rows.specs.Lists.{entriesSound, blocksSound}
+use Rattle.ckms_theory.specs.Lists.{entriesSound, blocksSound}
 
 module _ (most n : ℕ) (rows : List (List ℕ)) (i low sum : ℕ) (r : Bool) (e : entriesSound most n low sum (drop i (entriesOf rows)) ≡ r) where
   pub entries-done : length rows ≤ i → eqb sum n ≡ r

@@ -8,7 +8,7 @@ use borrow.Author.Tests.{lt-ltb, le-ltb}
 use lib.ListN.{length, drop, length-map}
 use Rattle.entries.specs.Entry.{entryOf, entriesOf, sumG}
 use Rattle.entries.proofs.Parts.{entryAt, entries-from, entries-end}
-use Rattle.ckms_rows.specs.Walk.{ranked, lastRank, walk, lookUp}
+use Rattle.ckms_theory.specs.Walk.{ranked, lastRank, walk, lookUp}
 
 -- the walk at place i: the rank is the sum of the g before it
 pub record Walking (scale limit : ℕ) (rows : List (List ℕ)) (i rank : ℕ) : Type 0 where

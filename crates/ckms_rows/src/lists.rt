@@ -4,7 +4,7 @@ ghost use mathlib.Core.Path.{_≡_};
 ghost use Prim.Native.Nat.{_≤_};
 ghost use lib.ListN.{length};
 ghost use Rattle.entries.specs.Entry.{entriesOf};
-ghost use Rattle.ckms_rows.specs.Lists.{entriesSound, blocksSound};
+ghost use Rattle.ckms_theory.specs.Lists.{entriesSound, blocksSound};
 
 // Values never fall, each g is 1 or more, each delta at most `most`, and the g sum to n.
 pub fn entries_sound(rows: &[[u32; 3]], most: u32, n: u32) -> bool

@@ -1,16 +1,11 @@
 // The walk of a query.
+use ckms_theory::Ranked;
 use fraction::wide;
 ghost use mathlib.Core.Path.{_≡_};
 ghost use Prim.Native.Nat.{_≤_, _<_};
 ghost use lib.ListN.{length};
 ghost use Rattle.entries.specs.Entry.{entriesOf, sumG};
-ghost use Rattle.ckms_rows.specs.Walk.{lastRank, lookUp};
-
-// A rank, and the value that is answered with it.
-pub struct Ranked {
-    pub rank: u32,
-    pub value: u32,
-}
+ghost use Rattle.ckms_theory.specs.Walk.{lastRank, lookUp};
 
 // The rank answered with the last value: the entries held, as the Rust has it, and not the observations.
 fn last_rank(held: u64, n: u64) -> u32

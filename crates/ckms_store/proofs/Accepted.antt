@@ -1,12 +1,13 @@
 -- An accepted call leaves a sound store, from any state that it accepts. Assumes nothing.
 use mathlib.Core.Path.{_≡_, sym}
 use Rattle.entries.proofs.Guards.{differ}
+use Rattle.ckms_store_steps.specs.Answers.{stateOf, tidyIn}
+use Rattle.ckms_store_steps.proofs.Sounds.{sound-rules, rules-sound}
+use Rattle.ckms_store_steps.proofs.Works.{put-sound, tidy-sound}
 use Rattle.ckms_store.specs.declared.Compressed.the-variants as compressing
-use Rattle.ckms_store.specs.Answers.{stateOf, tidyIn, compressed}
+use Rattle.ckms_store.specs.Answers.{compressed}
 use Rattle.ckms_store.specs.Promises.{SoundExactly, InsertSound, CompressSound}
 use Rattle.ckms_store.proofs.Exactly.{tested-own, taken-tells}
-use Rattle.ckms_store.proofs.Sounds.{sound-rules, rules-sound}
-use Rattle.ckms_store.proofs.Works.{put-sound, tidy-sound}
 
 pub sound-exactly : SoundExactly
 unfolding SoundExactly

@@ -16,23 +16,25 @@ use Rattle.entries.specs.Lists.{cleared}
 use Rattle.entries.proofs.Choose.{by-order}
 use Rattle.entries.proofs.Guards.{differ}
 use Rattle.entries.proofs.Layouts.{cleared-all}
-use Rattle.ckms_rows.specs.declared.walk.Ranked.{Ranked}
-use Rattle.ckms_rows.specs.Walk.{lookUp}
-use Rattle.ckms_store.specs.declared.Store.{Store}
-use Rattle.ckms_store.specs.declared.Opened.the-variants as opening
+use Rattle.ckms_theory.specs.declared.Ranked.{Ranked}
+use Rattle.ckms_theory.specs.Walk.{lookUp}
+use Rattle.ckms_store_steps.specs.declared.Store.{Store}
+use Rattle.ckms_store_steps.specs.declared.Checked.the-variants as checking
+use Rattle.ckms_store_steps.specs.Answers.{tested, checked, stateOf, putIn, tidyIn, scaleOf, limitOf}
+use Rattle.ckms_store_steps.specs.Limits.{observations, slotsOk, sizeOk}
+use Rattle.ckms_store_steps.specs.Sound.{sound}
+use Rattle.ckms_store_steps.specs.Steps.{Ready, Asking, PutPost, TidyPost}
+use Rattle.ckms_store_steps.specs.Held.{nothing}
+use Rattle.ckms_store_steps.proofs.Kept.{kept-sound}
+use Rattle.ckms_store_steps.proofs.Tested.{answerOf, by-check, check-passed}
+use Rattle.ckms_store_steps.proofs.Works.{rules, slots-are}
+use Rattle.ckms_store_steps.specs.declared.Opened.the-variants as opening
 use Rattle.ckms_store.specs.declared.Answer.the-variants as answering
-use Rattle.ckms_store.specs.declared.Checked.the-variants as checking
 use Rattle.ckms_store.specs.declared.Inserted.the-variants as inserting
 use Rattle.ckms_store.specs.declared.Compressed.the-variants as compressing
-use Rattle.ckms_store.specs.Answers.{fresh, opened, tested, checked, stateOf, putIn, inserted, tidyIn, compressed, scaleOf, limitOf, queried}
-use Rattle.ckms_store.specs.Limits.{observations, slotsOk, sizeOk}
-use Rattle.ckms_store.specs.Posts.{OpenPost, InsertPost, CompressPost}
-use Rattle.ckms_store.specs.Sound.{sound}
-use Rattle.ckms_store.specs.Steps.{Ready, Asking, PutPost, TidyPost}
-use Rattle.ckms_store.specs.Held.{nothing}
-use Rattle.ckms_store.proofs.Kept.{kept-sound}
-use Rattle.ckms_store.proofs.Tested.{answerOf, by-check, check-passed}
-use Rattle.ckms_store.proofs.Works.{rules, slots-are}
+use Rattle.ckms_store_steps.specs.Opening.{fresh, opened, OpenPost}
+use Rattle.ckms_store.specs.Answers.{inserted, compressed, queried}
+use Rattle.ckms_store.specs.Posts.{InsertPost, CompressPost}
 
 module _ (s : Store) (list : List Entry) (lens : List ℕ) where
   -- a refusal of the tests is the answer of every call
@@ -129,41 +131,3 @@ module _ (s : Store) (list : List Entry) (lens : List ℕ) where
               few = slots-are s list lens r .1;
               summed = f .summed;
             }
-
--- opening
-module _ (error : Fraction) (block : ℕ) (list : List Entry) (lens : List ℕ) where
-  open-refused : (why : Refusal) → opening.Refused why ≡ opened error block list lens → OpenPost error block list lens (opening.Refused why) list lens
-  open-refused why e = record {
-    answered = e;
-    entries = rw (sym e);
-    blocks = rw (sym e);
-    fresh = λ s q. absurd (differ (cc));
-  }
-
-  pub open-slots : slotsOk (length list) (length lens) ≡ false → OpenPost error block list lens (opening.Refused Slots) list lens
-  unfolding opened
-  open-slots h = open-refused Slots (rw h)
-
-  module _ (p : slotsOk (length list) (length lens) ≡ true) where
-    pub open-epsilon : isError error ≡ false → OpenPost error block list lens (opening.Refused Epsilon) list lens
-    unfolding opened
-    open-epsilon h = open-refused Epsilon (rw (p, h))
-
-    module _ (e : isError error ≡ true) where
-      pub open-block : sizeOk block ≡ false → OpenPost error block list lens (opening.Refused Block) list lens
-      unfolding opened
-      open-block h = open-refused Block (rw (p, e, h))
-
-      -- nothing held keeps every rule
-      pub open-fresh : sizeOk block ≡ true → (list′ : List Entry) (lens′ : List ℕ) → list′ ≡ cleared zeroEntry 0 (length list) list → lens′ ≡ cleared 0 0 (length lens) lens
-          → OpenPost error block list lens (opening.Open (fresh error block)) list′ lens′
-      unfolding opened
-      open-fresh h list′ lens′ a b =
-          let o : opened error block list lens ≡ opening.Open (fresh error block) = rw (p, e, h) in
-          record {
-            answered = sym o;
-            entries = a ∙ rw o (cleared-all zeroEntry list);
-            blocks = b ∙ rw o (cleared-all 0 lens);
-            fresh = λ s q. let w : fresh error block ≡ s = cc in
-                rw (sym w) (kept-sound (fresh error block) 0 nothing list′ lens′ record { sorted = tt; each = tt; summed = refl; blocks = tt; all = refl } e (omega arith) h (omega arith) (omega arith) refl refl);
-          }

@@ -4,34 +4,21 @@ use mathlib.Core.Logic.{_↔_}
 use mathlib.Core.List.{List, _∷_}
 use Prim.Native.Nat.{ℕ, suc, _+_, _-_, _<_}
 use native.Mathlib.Omega.{arith}
-use lib.ListN.{length, getD, take, drop, length-map, length-take, take-append-drop}
+use lib.ListN.{length, getD, take, length-map}
 use lib.Seq.{take-all}
 use Rattle.entries.specs.declared.Entry.{Entry}
 use Rattle.entries.specs.Entry.{values}
 use Rattle.entries.specs.Ranks.{Rising, below}
 use Rattle.entries.proofs.Choose.{by-order}
-use Rattle.entries.proofs.Counting.{below-one, below-none, below-append}
-use Rattle.entries.proofs.Parts.{below-le}
-use Rattle.entries.proofs.Places.{all-smaller, none-smaller}
+use Rattle.entries.proofs.Counting.{below-one, below-none}
+use Rattle.entries.proofs.Places.{all-smaller, below-before}
 use Rattle.entries.proofs.Sorting.{none-below}
 use Rattle.ckms_store.specs.Promises.{EndsByValue}
 
 -- all of a sorted list are smaller exactly when its last is
 all-below : (x v k : ℕ) (vs : List ℕ) → length vs ≡ k → Rising 0 (v ∷ vs) → (below (v ∷ vs) x ≡ suc k) ↔ (getD (v ∷ vs) k 0 < x)
-all-below x v k vs l r = (forth, back)
+all-below x v k vs l r = (λ e. below-before (v ∷ vs) x r k (omega arith), back)
   where
-    forth : below (v ∷ vs) x ≡ suc k → getD (v ∷ vs) k 0 < x
-    forth e =
-        by-order (getD (v ∷ vs) k 0) x (λ h. h)
-        (λ h. absurd (omega (
-          arith,
-          none-smaller 0 (v ∷ vs) k x (omega arith) r h,
-          below-append (take k (v ∷ vs)) (drop k (v ∷ vs)) x,
-          ap (λ (t : List ℕ). below t x) (take-append-drop k (v ∷ vs)),
-          below-le (take k (v ∷ vs)) x,
-          length-take k (v ∷ vs),
-        )))
-
     back : getD (v ∷ vs) k 0 < x → below (v ∷ vs) x ≡ suc k
     back h =
         let t : take (k + 1) (v ∷ vs) ≡ v ∷ vs = take-all (k + 1) (v ∷ vs) (omega arith) in

@@ -15,23 +15,25 @@ use Rattle.fraction.specs.Allowed.{isPhi, isError}
 use Rattle.entries.specs.declared.Entry.{Entry}
 use Rattle.entries.proofs.Choose.{by-order}
 use Rattle.entries.proofs.Guards.{differ, refused, passed, unmet, met, neither, both-passed, first-refused, second-refused}
-use Rattle.ckms_rows.specs.declared.walk.Ranked.{Ranked}
-use Rattle.ckms_rows.specs.Walk.{lookUp}
-use Rattle.ckms_store.specs.declared.Store.{Store}
-use Rattle.ckms_store.specs.declared.Checked.the-variants as checking
+use Rattle.ckms_theory.specs.declared.Ranked.{Ranked}
+use Rattle.ckms_theory.specs.Walk.{lookUp}
+use Rattle.ckms_store_steps.specs.declared.Store.{Store}
+use Rattle.ckms_store_steps.specs.declared.Checked.the-variants as checking
+use Rattle.ckms_store_steps.specs.Answers.{tested, checked, stateOf, putIn, tidyIn, scaleOf, limitOf}
+use Rattle.ckms_store_steps.specs.Limits.{observations, slotsOk, sizeOk}
+use Rattle.ckms_store_steps.specs.Sound.{sound}
+use Rattle.ckms_store_steps.specs.Steps.{Ready}
+use Rattle.ckms_store_steps.proofs.Tested.{same-refusals}
+use Rattle.ckms_store_steps.proofs.Works.{rules}
 use Rattle.ckms_store.specs.declared.Inserted.the-variants as inserting
 use Rattle.ckms_store.specs.declared.Compressed.the-variants as compressing
-use Rattle.ckms_store.specs.declared.Len.the-variants as counting
+use Rattle.ckms_store.specs.declared.Length.the-variants as counting
 use Rattle.ckms_store.specs.declared.IsEmpty.the-variants as telling
 use Rattle.ckms_store.specs.declared.Answer.the-variants as answering
-use Rattle.ckms_store.specs.Answers.{fresh, opened, tested, checked, stateOf, putIn, inserted, tidyIn, compressed, lenOf, emptyOf, scaleOf, limitOf, queried}
-use Rattle.ckms_store.specs.Limits.{observations, slotsOk, sizeOk}
+use Rattle.ckms_store_steps.specs.Opening.{fresh, opened}
+use Rattle.ckms_store.specs.Answers.{inserted, compressed, lenOf, emptyOf, queried}
 use Rattle.ckms_store.specs.Refusals.{OpenExactly, CheckExactly, InsertExactly, QueryExactly}
-use Rattle.ckms_store.specs.Sound.{sound}
-use Rattle.ckms_store.specs.Steps.{Ready}
 use Rattle.ckms_store.proofs.Calls.{own}
-use Rattle.ckms_store.proofs.Tested.{same-refusals}
-use Rattle.ckms_store.proofs.Works.{rules}
 
 pub open-exactly : (error : Fraction) (block : ℕ) (list : List Entry) (lens : List ℕ) → OpenExactly error block list lens
 unfolding opened

@@ -1,15 +1,6 @@
 pub mod Abacus
 pub mod Accepted
-pub mod Asks
 pub mod Calls
 pub mod Ends
 pub mod Exactly
-pub mod Kept
-pub mod Layouts
 pub mod Outcomes
-pub mod Puts
-pub mod Sounds
-pub mod Tested
-pub mod Tests
-pub mod Tidies
-pub mod Works

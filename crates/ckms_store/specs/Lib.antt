@@ -1,9 +1,5 @@
 pub mod Answers
-pub mod Held
-pub mod Limits
 pub mod Posts
 pub mod Promises
 pub mod Readings
 pub mod Refusals
-pub mod Sound
-pub mod Steps

@@ -11,19 +11,20 @@ use Rattle.entries.specs.declared.Entry.{Entry}
 use Rattle.entries.specs.Entry.{entriesOf, values}
 use Rattle.entries.specs.Promises.{Threes}
 use Rattle.entries.specs.Ranks.{Rising}
-use Rattle.ckms_rows.specs.Blocks.{lastOf}
-use Rattle.ckms_store.specs.declared.Store.{Store}
-use Rattle.ckms_store.specs.declared.Opened.{Opened}
+use Rattle.ckms_theory.specs.Blocks.{lastOf}
+use Rattle.ckms_store_steps.specs.declared.Store.{Store}
+use Rattle.ckms_store_steps.specs.Held.{Held, placeOf}
+use Rattle.ckms_store_steps.specs.Sound.{sound, Rules}
+use Rattle.ckms_store_steps.specs.declared.Opened.{Opened}
 use Rattle.ckms_store.specs.declared.Inserted.{Inserted}
 use Rattle.ckms_store.specs.declared.Inserted.the-variants as inserting
 use Rattle.ckms_store.specs.declared.Compressed.{Compressed}
 use Rattle.ckms_store.specs.declared.Compressed.the-variants as compressing
 use Rattle.ckms_store.specs.Answers.{inserted, insertedList, insertedLens, compressed, compressedList, compressedLens}
-use Rattle.ckms_store.specs.Held.{Held, placeOf}
-use Rattle.ckms_store.specs.Posts.{OpenPost, InsertPost, CompressPost}
+use Rattle.ckms_store_steps.specs.Opening.{OpenPost}
+use Rattle.ckms_store.specs.Posts.{InsertPost, CompressPost}
 use Rattle.ckms_store.specs.Readings.{StoreReadings}
 use Rattle.ckms_store.specs.Refusals.{OpenExactly, CheckExactly, InsertExactly, QueryExactly}
-use Rattle.ckms_store.specs.Sound.{sound, Rules}
 
 -- the soundness test passes exactly when every rule holds
 unfoldable pub SoundExactly : Type 0

@@ -1,22 +1,16 @@
 -- Reading 9 of the rules, and inputs that tell the store's plausible slips apart.
 -- Assumes nothing: these are definitions.
 use mathlib.Core.Path.{_≡_}
-use mathlib.Core.Bool.{true, false}
 use Prim.Native.Nat.{ℕ}
 use mathlib.Core.List.{List, [], _∷_}
 use Rattle.fraction.specs.declared.Fraction.{Fraction}
 use Rattle.entries.specs.declared.Entry.{Entry}
 use Rattle.entries.specs.Entry.{entry}
-use Rattle.ckms_rows.specs.Join.{joined}
-use Rattle.ckms_rows.specs.Walk.{ranked, lookUp}
-use Rattle.ckms_store.specs.declared.Store.{Store}
-use Rattle.ckms_store.specs.Answers.{scaleOf, limitOf}
-use Rattle.ckms_store.specs.Held.{Held, nothing, put, tidy}
-use Rattle.ckms_store.specs.Sound.{sound}
-
--- num / den
-abbrev pub over : ℕ → ℕ → Fraction
-over num den = record { num = num; den = den }
+use Rattle.ckms_theory.specs.Join.{joined}
+use Rattle.ckms_theory.specs.Walk.{ranked, lookUp}
+use Rattle.ckms_store_steps.specs.Answers.{scaleOf, limitOf}
+use Rattle.ckms_store_steps.specs.Held.{Held, nothing, put, tidy}
+use Rattle.ckms_store_steps.specs.Readings.{over, DeltaReadings}
 
 -- these entries in blocks of these lengths
 abbrev pub holds : List Entry → List ℕ → Held
@@ -32,10 +26,6 @@ unfoldable pub putTidy : Fraction → ℕ → Held → List ℕ → Held
 putTidy error size h [] = h
 putTidy error size h (x ∷ xs) = putTidy error size (tidy error size (put error size x h)) xs
 
--- a store of one observation, in one block of one
-abbrev pub one : Store
-one = record { error = over 1 2; n = 1; held = 1; block = 1; blocks = 1 }
-
 pub record StoreReadings : Type 0 where
   -- 9: error 1/2, block 2, 10 20 30 40 50 45: 45 has delta 2 (with the g of the first block counted it would have 3)
   pub reading-9 : putAll (over 1 2) 2 nothing (10 ∷ 20 ∷ 30 ∷ 40 ∷ 50 ∷ 45 ∷ [])
@@ -49,6 +39,5 @@ pub record StoreReadings : Type 0 where
   -- a block that loses all its entries is gone, and a joined block is tried again
   pub joins : tidy (over 3 4) 2 (holds (entry 1 1 0 ∷ entry 2 1 0 ∷ entry 3 1 0 ∷ entry 4 1 0 ∷ []) (1 ∷ 1 ∷ 1 ∷ 1 ∷ [])) ≡ holds (entry 1 1 0 ∷ entry 4 3 0 ∷ []) (2 ∷ [])
   pub joins-again : joined 4 (1 ∷ 2 ∷ 1 ∷ 4 ∷ 1 ∷ []) ≡ 4 ∷ 4 ∷ 1 ∷ []
-  -- a delta of 3,999,999,999 is sound, and one more is not
-  pub largest-delta : sound one (entry 7 1 3999999999 ∷ []) (1 ∷ []) ≡ true
-  pub too-large-a-delta : sound one (entry 7 1 4000000000 ∷ []) (1 ∷ []) ≡ false
+  -- the largest delta
+  pub deltas : DeltaReadings

@@ -11,19 +11,21 @@ use Rattle.refusal.specs.declared.Refusal.the-variants.{Slots, Epsilon, Block, 
 use Rattle.fraction.specs.declared.Fraction.{Fraction}
 use Rattle.fraction.specs.Allowed.{isPhi, isError}
 use Rattle.entries.specs.declared.Entry.{Entry}
-use Rattle.ckms_rows.specs.declared.walk.Ranked.{Ranked}
-use Rattle.ckms_store.specs.declared.Store.{Store}
-use Rattle.ckms_store.specs.declared.Opened.the-variants as opening
-use Rattle.ckms_store.specs.declared.Checked.the-variants as checking
+use Rattle.ckms_theory.specs.declared.Ranked.{Ranked}
+use Rattle.ckms_store_steps.specs.declared.Store.{Store}
+use Rattle.ckms_store_steps.specs.declared.Checked.the-variants as checking
+use Rattle.ckms_store_steps.specs.Answers.{checked}
+use Rattle.ckms_store_steps.specs.Limits.{observations, slotsOk, sizeOk}
+use Rattle.ckms_store_steps.specs.Sound.{sound}
+use Rattle.ckms_store_steps.specs.Steps.{Ready}
+use Rattle.ckms_store_steps.specs.declared.Opened.the-variants as opening
 use Rattle.ckms_store.specs.declared.Inserted.the-variants as inserting
 use Rattle.ckms_store.specs.declared.Compressed.the-variants as compressing
-use Rattle.ckms_store.specs.declared.Len.the-variants as counting
+use Rattle.ckms_store.specs.declared.Length.the-variants as counting
 use Rattle.ckms_store.specs.declared.IsEmpty.the-variants as telling
 use Rattle.ckms_store.specs.declared.Answer.the-variants as answering
-use Rattle.ckms_store.specs.Answers.{opened, checked, inserted, compressed, lenOf, emptyOf, queried}
-use Rattle.ckms_store.specs.Limits.{observations, slotsOk, sizeOk}
-use Rattle.ckms_store.specs.Sound.{sound}
-use Rattle.ckms_store.specs.Steps.{Ready}
+use Rattle.ckms_store_steps.specs.Opening.{opened}
+use Rattle.ckms_store.specs.Answers.{inserted, compressed, lenOf, emptyOf, queried}
 
 pub record OpenExactly (error : Fraction) (block : ℕ) (list : List Entry) (lens : List ℕ) : Type 0 where
   pub slots : opened error block list lens ≡ opening.Refused Slots ↔ slotsOk (length list) (length lens) ≡ false

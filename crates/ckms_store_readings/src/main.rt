@@ -3,7 +3,7 @@ use ckms_store::Answer;
 use ckms_store::Compressed;
 use ckms_store::Inserted;
 use ckms_store::IsEmpty;
-use ckms_store::Len;
+use ckms_store::Length;
 use ckms_store::Opened;
 use ckms_store::Store;
 use fraction::Fraction;
@@ -29,10 +29,10 @@ fn say_compressed(answer: Compressed) {
     }
 }
 
-fn say_len(answer: Len) {
+fn say_len(answer: Length) {
     match answer {
-        Len::Held(n) => say::line(b"len ", n),
-        Len::Refused(why) => say::line(b"len refused ", why.number()),
+        Length::Held(n) => say::line(b"len ", n),
+        Length::Refused(why) => say::line(b"len refused ", why.number()),
     }
 }
 
@@ -63,7 +63,7 @@ fn say_lens(lens: &[u32]) {
 
 // Inserts a value; a refusal leaves the store as it was.
 fn put(s: Store, rows: &mut [[u32; 3]], lens: &mut [u32], v: u32) -> Store {
-    match s.insert(rows, lens, v) {
+    match ckms_store::insert(s, rows, lens, v) {
         Inserted::Taken(next) => next,
         Inserted::Refused(_) => s,
     }
@@ -77,8 +77,8 @@ fn reading_9() {
     let Opened::Open(fresh) = opened else {
         return;
     };
-    say_empty(fresh.is_empty(&rows, &lens));
-    say_answer(fresh.query(&rows, &lens, Fraction { num: 1, den: 2 }));
+    say_empty(ckms_store::is_empty(fresh, &rows, &lens));
+    say_answer(ckms_store::query(fresh, &rows, &lens, Fraction { num: 1, den: 2 }));
     let mut s = put(fresh, &mut rows, &mut lens, 10);
     s = put(s, &mut rows, &mut lens, 20);
     s = put(s, &mut rows, &mut lens, 30);
@@ -87,11 +87,11 @@ fn reading_9() {
     s = put(s, &mut rows, &mut lens, 45);
     say::rows(b"", &rows);
     say_lens(&lens);
-    say_len(s.len(&rows, &lens));
-    say_empty(s.is_empty(&rows, &lens));
-    say_answer(s.query(&rows, &lens, Fraction { num: 1, den: 2 }));
-    say_answer(s.query(&rows, &lens, Fraction { num: 3, den: 2 }));
-    say_compressed(s.compress(&mut rows, &mut lens));
+    say_len(ckms_store::len(s, &rows, &lens));
+    say_empty(ckms_store::is_empty(s, &rows, &lens));
+    say_answer(ckms_store::query(s, &rows, &lens, Fraction { num: 1, den: 2 }));
+    say_answer(ckms_store::query(s, &rows, &lens, Fraction { num: 3, den: 2 }));
+    say_compressed(ckms_store::compress(s, &mut rows, &mut lens));
     say::rows(b"", &rows);
     say_lens(&lens);
 }
@@ -107,12 +107,12 @@ fn reading_10() {
     let mut s = put(fresh, &mut rows, &mut lens, 1);
     s = put(s, &mut rows, &mut lens, 2);
     s = put(s, &mut rows, &mut lens, 3);
-    let answer = s.compress(&mut rows, &mut lens);
+    let answer = ckms_store::compress(s, &mut rows, &mut lens);
     let Compressed::Done(t) = answer else {
         return;
     };
     say::rows(b"", &rows);
-    say_answer(t.query(&rows, &lens, Fraction { num: 1, den: 1 }));
+    say_answer(ckms_store::query(t, &rows, &lens, Fraction { num: 1, den: 1 }));
 }
 
 // One entry that stands for all but one of the observations: one insert more is taken, and the next is refused.
@@ -128,12 +128,12 @@ fn count() {
         block: 2,
         blocks: 1,
     };
-    let answer = s.insert(&mut rows, &mut lens, 7);
+    let answer = ckms_store::insert(s, &mut rows, &mut lens, 7);
     say_inserted(answer);
     let Inserted::Taken(t) = answer else {
         return;
     };
-    say_inserted(t.insert(&mut rows, &mut lens, 9));
+    say_inserted(ckms_store::insert(t, &mut rows, &mut lens, 9));
     say::rows(b"", &rows);
     say_lens(&lens);
 }
@@ -155,12 +155,12 @@ fn refusals() {
     say_lens(&lens);
     let mut s = put(fresh, &mut rows, &mut lens, 4);
     s = put(s, &mut rows, &mut lens, 5);
-    say_inserted(s.insert(&mut rows, &mut lens, 6));
+    say_inserted(ckms_store::insert(s, &mut rows, &mut lens, 6));
     let shorter = [2u32; 1];
-    say_len(s.len(&rows, &shorter));
+    say_len(ckms_store::len(s, &rows, &shorter));
     rows[0] = [4, 0, 0];
-    say_inserted(s.insert(&mut rows, &mut lens, 6));
-    say_compressed(s.compress(&mut rows, &mut lens));
+    say_inserted(ckms_store::insert(s, &mut rows, &mut lens, 6));
+    say_compressed(ckms_store::compress(s, &mut rows, &mut lens));
 }
 
 fn main() {

@@ -1,7 +1,6 @@
 pub mod Choose
 pub mod Counting
 pub mod Guards
-pub mod Halves
 pub mod Layouts
 pub mod Maps
 pub mod Order

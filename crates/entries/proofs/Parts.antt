@@ -10,7 +10,7 @@ use lib.Seq.{length-take-le, take-nil, take-set-lt, drop-cons, slice}
 use Rattle.entries.specs.declared.Entry.{Entry}
 use Rattle.entries.specs.Entry.{entryOf, entriesOf, zeroEntry, values, sumG}
 use Rattle.entries.specs.Ranks.{Rising, below}
-use Rattle.entries.proofs.Counting.{below-append, below-le-upto, upto-le-length}
+use Rattle.entries.proofs.Counting.{below-le-upto, upto-le-length, below-split}
 use Rattle.entries.proofs.Maps.{map-take, map-drop, entry-at, values-take, values-drop, sum-append}
 use Rattle.entries.proofs.Places.{rising-take, rising-drop}
 
@@ -20,10 +20,7 @@ below-le vs x = omega (arith, below-le-upto vs x, upto-le-length vs x)
 
 -- the smaller ones before a, and from a on
 pub below-cut : (es : List Entry) (a x : ℕ) → below (values es) x ≡ below (values (take a es)) x + below (values (drop a es)) x
-below-cut es a x =
-    sym (ap (λ (l : List ℕ). below l x) (take-append-drop a (values es)))
-    ∙ below-append (take a (values es)) (drop a (values es)) x
-    ∙ rw (map-take (λ (e : Entry). e .v) a es, map-drop (λ (e : Entry). e .v) a es)
+below-cut es a x = below-split (values es) a x ∙ rw (map-take (λ (e : Entry). e .v) a es, map-drop (λ (e : Entry). e .v) a es)
 
 -- the g before a, and from a on
 pub sum-cut : (es : List Entry) (a : ℕ) → sumG es ≡ sumG (take a es) + sumG (drop a es)

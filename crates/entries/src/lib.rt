@@ -5,9 +5,6 @@ ghost use lib.ListN.{length};
 ghost use Rattle.entries.specs.Entry.{rowOf, entryOf, entriesOf, sumG};
 ghost use Rattle.entries.specs.Promises.{Promises};
 
-pub mod room;
-pub mod search;
-
 // v is an observation; g says how many ranks lie between the entry before and this one; delta how unsure its rank is.
 pub struct Entry {
     pub v: u32,

@@ -9,19 +9,19 @@ use borrow.Author.Tests.{leb-false, lt-leb}
 use lib.Dec.{leb}
 use lib.ListN.{length}
 use Rattle.fraction.specs.declared.Fraction.{Fraction}
-use Rattle.fraction.specs.Allowed.{isEpsilon, isPhi}
+use Rattle.fraction.specs.Allowed.{isPhi}
 use Rattle.entries.specs.declared.Entry.{Entry}
 use Rattle.entries.specs.Entry.{zeroEntry}
 use Rattle.entries.specs.Lists.{layout}
 use Rattle.entries.proofs.Guards.{differ, passed, met, both-passed}
-use Rattle.greenwald_khanna.specs.declared.Stream.{Stream}
+use Rattle.greenwald_khanna_steps.specs.declared.Stream.{Stream}
+use Rattle.greenwald_khanna_steps.specs.Steps.{after, streamOf}
+use Rattle.greenwald_khanna_steps.specs.Limits.{observations, slotsOk}
+use Rattle.greenwald_khanna_steps.specs.Sound.{sound, stateOf}
+use Rattle.greenwald_khanna_steps.specs.Steps.{Accepts}
 use Rattle.greenwald_khanna.specs.declared.Inserted.the-variants.{Taken}
-use Rattle.greenwald_khanna.specs.declared.Opened.the-variants as opening
 use Rattle.greenwald_khanna.specs.declared.Answer.the-variants as asking
-use Rattle.greenwald_khanna.specs.Answers.{opened, after, streamOf, inserted, insertedList, valueOf, quantiled}
-use Rattle.greenwald_khanna.specs.Limits.{observations, slotsOk}
-use Rattle.greenwald_khanna.specs.Sound.{sound, stateOf}
-use Rattle.greenwald_khanna.specs.Steps.{Accepts}
+use Rattle.greenwald_khanna.specs.Answers.{inserted, insertedList, valueOf, quantiled}
 use Rattle.greenwald_khanna_theory.specs.State.{quantile}
 
 module _ (st : Stream) (list : List Entry) (x : ℕ) where
@@ -49,17 +49,6 @@ module _ (st : Stream) (list : List Entry) (x : ℕ) where
   pub taken-list : (next : Stream) → inserted st list x ≡ Taken next
       → insertedList st list x ≡ layout zeroEntry (after st list x .entries) (suc (st .held)) list
   taken-list next e = rw e
-
--- opening
-abbrev pub freshStream : Fraction → Stream
-freshStream ε = record { epsilon = ε; n = 0; held = 0 }
-
-pub open-passes : (ε : Fraction) (list : List Entry) (st : Stream) → opened ε list ≡ opening.Open st
-    → (slotsOk (length list) ≡ true) × (isEpsilon ε ≡ true) × (st ≡ freshStream ε)
-unfolding opened
-open-passes ε list st e =
-    let t = both-passed (slotsOk (length list)) (isEpsilon ε) e (λ z. differ (cc)) (λ z. differ (cc)) in
-    (t .0, t .1, cc (t .2))
 
 -- a quantile: its tests, and the value found
 pub value-passes : (st : Stream) (list : List Entry) (φ : Fraction) (v : ℕ) → quantiled st list φ ≡ asking.Value v

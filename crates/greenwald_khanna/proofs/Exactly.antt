@@ -17,15 +17,18 @@ use Rattle.entries.specs.declared.Entry.{Entry}
 use Rattle.entries.proofs.Choose.{by-order}
 use Rattle.entries.proofs.Guards.{differ, refused, passed, unmet, met, neither, both-passed, first-refused, second-refused}
 use Rattle.greenwald_khanna_theory.specs.State.{quantile}
-use Rattle.greenwald_khanna.specs.declared.Stream.{Stream}
+use Rattle.greenwald_khanna_steps.specs.declared.Stream.{Stream}
+use Rattle.greenwald_khanna_steps.specs.Steps.{after, streamOf}
+use Rattle.greenwald_khanna_steps.specs.Limits.{observations, slotsOk}
+use Rattle.greenwald_khanna_steps.specs.Sound.{sound, stateOf}
+use Rattle.greenwald_khanna_steps.proofs.Sounds.{sound-facts}
 use Rattle.greenwald_khanna.specs.declared.Answer.the-variants.{Value, Refused}
-use Rattle.greenwald_khanna.specs.Answers.{opened, after, streamOf, inserted, valueOf, quantiled, told}
-use Rattle.greenwald_khanna.specs.Limits.{observations, slotsOk}
+use Rattle.greenwald_khanna_steps.specs.Opening.{opened}
+use Rattle.greenwald_khanna.specs.Answers.{inserted, valueOf, quantiled, told}
 use Rattle.greenwald_khanna.specs.Refusals.{OpenExactly, InsertExactly, QuantileExactly, ToldExactly}
-use Rattle.greenwald_khanna.specs.Sound.{sound, stateOf}
 use Rattle.greenwald_khanna.proofs.Asking.{quantile-none, quantile-some}
-use Rattle.greenwald_khanna.proofs.Cases.{freshStream, open-passes, taken-passes, passes-taken, value-passes, passes-value}
-use Rattle.greenwald_khanna.proofs.Sounds.{sound-facts}
+use Rattle.greenwald_khanna_steps.proofs.Fresh.{freshStream, open-passes}
+use Rattle.greenwald_khanna.proofs.Cases.{taken-passes, passes-taken, value-passes, passes-value}
 
 pub open-exactly : (ε : Fraction) (list : List Entry) → OpenExactly ε list
 unfolding opened

@@ -16,14 +16,15 @@ use Rattle.greenwald_khanna_theory.specs.Explains.{Explains}
 use Rattle.greenwald_khanna_theory.specs.Promises.{Sound, InsertKeeps}
 use Rattle.greenwald_khanna_theory.specs.State.{State}
 use Rattle.greenwald_khanna_theory.proofs.Explaining.{insert-keeps}
-use Rattle.greenwald_khanna.specs.declared.Stream.{Stream}
+use Rattle.greenwald_khanna_steps.specs.declared.Stream.{Stream}
+use Rattle.greenwald_khanna_steps.specs.Steps.{after, streamOf}
+use Rattle.greenwald_khanna_steps.specs.Sound.{sound, stateOf}
+use Rattle.greenwald_khanna_steps.specs.Steps.{Accepts}
+use Rattle.greenwald_khanna_steps.proofs.Lengths.{insert-length, insert-count}
+use Rattle.greenwald_khanna_steps.proofs.Sounds.{Facts, sound-facts, facts-sound}
 use Rattle.greenwald_khanna.specs.declared.Inserted.the-variants.{Taken}
-use Rattle.greenwald_khanna.specs.Answers.{after, streamOf, inserted, insertedList}
-use Rattle.greenwald_khanna.specs.Sound.{sound, stateOf}
-use Rattle.greenwald_khanna.specs.Steps.{Accepts}
+use Rattle.greenwald_khanna.specs.Answers.{inserted, insertedList}
 use Rattle.greenwald_khanna.proofs.Cases.{taken-passes, taken-list}
-use Rattle.greenwald_khanna.proofs.Lengths.{insert-length, insert-count}
-use Rattle.greenwald_khanna.proofs.Sounds.{Facts, sound-facts, facts-sound}
 
 -- the stream that holds s finds s in the list that holds its entries
 state-back : (ε : Fraction) (s : State) (most : ℕ) (list : List Entry) → stateOf (streamOf ε s) (layout zeroEntry (s .entries) most list) ≡ s

@@ -1,14 +1,6 @@
-pub mod Abacus
 pub mod Asking
-pub mod Bounds
 pub mod Cases
 pub mod Exactly
-pub mod Fresh
-pub mod Halves
 pub mod Kept
-pub mod Lengths
 pub mod Outcomes
 pub mod Returns
-pub mod Runs
-pub mod Scans
-pub mod Sounds

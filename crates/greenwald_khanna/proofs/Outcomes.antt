@@ -2,7 +2,7 @@
 -- Assumes nothing.
 use mathlib.Core.Path.{sym, _∙_}
 use Rattle.entries.proofs.Maps.{same-words}
-use Rattle.greenwald_khanna.specs.Promises.{OneOpening, OneInsert, OneQuantile, OneFloor}
+use Rattle.greenwald_khanna.specs.Promises.{OneOpening, OneInsert, OneQuantile}
 
 pub one-opening : OneOpening
 unfolding OneOpening
@@ -15,7 +15,3 @@ one-insert st before x a b xs ys s t h k = (h .answered ∙ sym (k .answered), s
 pub one-quantile : OneQuantile
 unfolding OneQuantile
 one-quantile st list φ a b h k = h .answered ∙ sym (k .answered)
-
-pub one-floor : OneFloor
-unfolding OneFloor
-one-floor ε before obs φ a b xs ys s t h k = (h .answered ∙ sym (k .answered), same-words xs ys s t (h .left ∙ sym (k .left)))

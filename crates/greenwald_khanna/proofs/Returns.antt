@@ -19,51 +19,22 @@ use Rattle.entries.specs.Lists.{cleared}
 use Rattle.entries.proofs.Guards.{differ}
 use Rattle.entries.proofs.Layouts.{cleared-all}
 use Rattle.entries.proofs.Maps.{map-cleared}
-use Rattle.greenwald_khanna.specs.declared.Stream.{Stream}
-use Rattle.greenwald_khanna.specs.declared.Opened.the-variants as opening
+use Rattle.greenwald_khanna_steps.specs.declared.Stream.{Stream}
+use Rattle.greenwald_khanna_steps.specs.Steps.{after, Accepts, Holds}
+use Rattle.greenwald_khanna_steps.specs.Limits.{slots, slotsOk}
+use Rattle.greenwald_khanna_steps.specs.Sound.{sound, stateOf}
+use Rattle.greenwald_khanna_steps.proofs.Sounds.{sound-facts}
+use Rattle.greenwald_khanna_steps.specs.declared.Opened.the-variants as opening
 use Rattle.greenwald_khanna.specs.declared.Inserted.the-variants as inserting
 use Rattle.greenwald_khanna.specs.declared.Answer.{Answer}
 use Rattle.greenwald_khanna.specs.declared.Answer.the-variants.{Value, Refused}
-use Rattle.greenwald_khanna.specs.Answers.{opened, after, inserted, insertedList, valueOf, quantiled, told, toldP}
-use Rattle.greenwald_khanna.specs.Limits.{slots, slotsOk}
-use Rattle.greenwald_khanna.specs.Posts.{OpenPost, InsertPost, QuantilePost}
-use Rattle.greenwald_khanna.specs.Sound.{sound, stateOf}
-use Rattle.greenwald_khanna.specs.Steps.{Accepts, Holds}
+use Rattle.greenwald_khanna_steps.specs.Opening.{opened, OpenPost}
+use Rattle.greenwald_khanna.specs.Answers.{inserted, insertedList, valueOf, quantiled, told, toldP}
+use Rattle.greenwald_khanna.specs.Posts.{InsertPost, QuantilePost}
 use Rattle.greenwald_khanna.proofs.Asking.{value-within}
-use Rattle.greenwald_khanna.proofs.Cases.{freshStream, passes-taken, taken-list, passes-value}
-use Rattle.greenwald_khanna.proofs.Fresh.{opened-fresh}
+use Rattle.greenwald_khanna_steps.proofs.Fresh.{freshStream, opened-fresh}
+use Rattle.greenwald_khanna.proofs.Cases.{passes-taken, taken-list, passes-value}
 use Rattle.greenwald_khanna.proofs.Kept.{inserted-kept}
-use Rattle.greenwald_khanna.proofs.Sounds.{sound-facts}
-
--- the length of a lent list of rows, tested
-module _ (rows : List (List ℕ)) where
-  pub few : length rows < 1 → slotsOk (length (entriesOf rows)) ≡ false
-  few h = rw (length-map rows entryOf, lt-leb 1 (length rows) h)
-
-  pub many : 1 ≤ length rows → slots < length rows → slotsOk (length (entriesOf rows)) ≡ false
-  many a h = rw (length-map rows entryOf, le-leb 1 (length rows) a, lt-leb (length rows) slots h)
-
-  pub enough : 1 ≤ length rows → length rows ≤ slots → slotsOk (length (entriesOf rows)) ≡ true
-  enough a h = rw (length-map rows entryOf, le-leb 1 (length rows) a, le-leb (length rows) slots h)
-
--- opening
-module _ (ε : Fraction) (before : List Entry) where
-  pub open-refused : (why : Refusal) → opened ε before ≡ opening.Refused why → OpenPost ε before (opening.Refused why) before
-  open-refused why e = record { answered = sym e; left = rw e; fresh = λ st a. opened-fresh ε before st (e ∙ a) before }
-
-  pub open-accepted : (list : List Entry) → slotsOk (length before) ≡ true → isEpsilon ε ≡ true → list ≡ replicate (length before) zeroEntry
-      → OpenPost ε before (opening.Open (freshStream ε)) list
-  unfolding opened
-  open-accepted list a b l =
-      let e : opened ε before ≡ opening.Open (freshStream ε) = rw (a, b) in
-      record { answered = sym e; left = l ∙ rw e; fresh = λ st k. opened-fresh ε before st (e ∙ k) list }
-
--- all rows cleared are zero entries
-pub all-cleared : (rows left : List (List ℕ)) → left ≡ cleared (rowOf zeroEntry) 0 (length rows) rows → entriesOf left ≡ replicate (length (entriesOf rows)) zeroEntry
-all-cleared rows left e =
-    ap entriesOf e
-    ∙ map-cleared entryOf (rowOf zeroEntry) 0 (length rows) rows
-    ∙ rw (← length-map rows entryOf) (cleared-all zeroEntry (entriesOf rows))
 
 -- inserting
 module _ (st : Stream) (before : List Entry) (x : ℕ) where

@@ -5,46 +5,23 @@ use mathlib.Core.Bool.{cond, not}
 use mathlib.Core.Option.{Option, none, some}
 use mathlib.Core.List.{List}
 use lib.Dec.{leb}
-use lib.ListN.{length, replicate}
-use Rattle.refusal.specs.declared.Refusal.the-variants.{Slots, Epsilon, Damaged, Count, Full, Phi, Empty}
+use lib.ListN.{length}
+use Rattle.refusal.specs.declared.Refusal.the-variants.{Slots, Damaged, Count, Full, Phi, Empty}
 use Rattle.fraction.specs.declared.Fraction.{Fraction}
-use Rattle.fraction.specs.Allowed.{isEpsilon, isPhi}
+use Rattle.fraction.specs.Allowed.{isPhi}
 use Rattle.fraction.specs.Products.{pOf}
 use Rattle.entries.specs.declared.Entry.{Entry}
 use Rattle.entries.specs.Entry.{zeroEntry}
 use Rattle.entries.specs.Lists.{layout}
-use Rattle.greenwald_khanna_theory.specs.State.{State, insert, quantile}
-use Rattle.greenwald_khanna.specs.declared.Stream.{Stream}
-use Rattle.greenwald_khanna.specs.declared.Opened.{Opened}
-use Rattle.greenwald_khanna.specs.declared.Opened.the-variants as opening
+use Rattle.greenwald_khanna_theory.specs.State.{quantile}
+use Rattle.greenwald_khanna_steps.specs.declared.Stream.{Stream}
+use Rattle.greenwald_khanna_steps.specs.Limits.{observations, slotsOk}
+use Rattle.greenwald_khanna_steps.specs.Sound.{sound, stateOf}
+use Rattle.greenwald_khanna_steps.specs.Steps.{after, streamOf}
 use Rattle.greenwald_khanna.specs.declared.Inserted.{Inserted}
 use Rattle.greenwald_khanna.specs.declared.Inserted.the-variants as inserting
 use Rattle.greenwald_khanna.specs.declared.Answer.{Answer}
 use Rattle.greenwald_khanna.specs.declared.Answer.the-variants.{Value, Refused}
-use Rattle.greenwald_khanna.specs.Limits.{observations, slotsOk}
-use Rattle.greenwald_khanna.specs.Sound.{sound, stateOf}
-
--- opening: SLOTS, EPSILON; else a stream that has seen nothing
-unfoldable pub opened : Fraction → List Entry → Opened
-opened ε list =
-    cond (not (slotsOk (length list))) (opening.Refused Slots)
-    (cond (not (isEpsilon ε)) (opening.Refused Epsilon)
-    (opening.Open (record { epsilon = ε; n = 0; held = 0 })))
-
--- the lent list afterwards: all slots zero, or as it was where opening is refused
-abbrev pub zeroedBy : Opened → List Entry → List Entry
-zeroedBy (opening.Open st) list = replicate (length list) zeroEntry
-zeroedBy (opening.Refused why) list = list
-
-abbrev pub openedList : Fraction → List Entry → List Entry
-openedList ε list = zeroedBy (opened ε list) list
-
--- the observations and the summary after an accepted insert, and the stream that holds them
-abbrev pub after : Stream → List Entry → ℕ → State
-after st list x = insert (st .epsilon) (stateOf st list) x
-
-abbrev pub streamOf : Fraction → State → Stream
-streamOf ε s = record { epsilon = ε; n = s .n; held = length (s .entries) }
 
 -- inserting: SLOTS, DAMAGED, COUNT, FULL; else the stream with the observation
 unfoldable pub inserted : Stream → List Entry → ℕ → Inserted

@@ -1,10 +1,4 @@
 pub mod Answers
-pub mod Demand3
-pub mod Floor
-pub mod Limits
 pub mod Posts
 pub mod Promises
-pub mod Readings
 pub mod Refusals
-pub mod Sound
-pub mod Steps

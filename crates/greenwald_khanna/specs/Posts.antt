@@ -1,4 +1,4 @@
--- What holds after each call: its answer and the lent list as functions of the input; and demand 3, call by call.
+-- What holds after each call but opening: its answer and the lent list as functions of the input; and demand 3, call by call.
 -- Assumes nothing: these are definitions.
 use mathlib.Core.Path.{_≡_}
 use mathlib.Core.Bool.{true}
@@ -10,21 +10,13 @@ use Rattle.entries.specs.declared.Entry.{Entry}
 use Rattle.greenwald_khanna_theory.specs.Answered.{WithinRanks}
 use Rattle.greenwald_khanna_theory.specs.Explains.{Explains}
 use Rattle.greenwald_khanna_theory.specs.State.{rank}
-use Rattle.greenwald_khanna.specs.declared.Stream.{Stream}
-use Rattle.greenwald_khanna.specs.declared.Opened.{Opened}
-use Rattle.greenwald_khanna.specs.declared.Opened.the-variants.{Open}
+use Rattle.greenwald_khanna_steps.specs.declared.Stream.{Stream}
+use Rattle.greenwald_khanna_steps.specs.Sound.{sound, stateOf}
 use Rattle.greenwald_khanna.specs.declared.Inserted.{Inserted}
 use Rattle.greenwald_khanna.specs.declared.Inserted.the-variants.{Taken}
 use Rattle.greenwald_khanna.specs.declared.Answer.{Answer}
 use Rattle.greenwald_khanna.specs.declared.Answer.the-variants.{Value}
-use Rattle.greenwald_khanna.specs.Answers.{opened, openedList, inserted, insertedList, quantiled}
-use Rattle.greenwald_khanna.specs.Sound.{sound, stateOf}
-
--- a fresh stream is sound, and the empty list explains it
-pub record OpenPost (ε : Fraction) (before : List Entry) (answer : Opened) (list : List Entry) : Type 0 where
-  pub answered : answer ≡ opened ε before
-  pub left : list ≡ openedList ε before
-  pub fresh : (st : Stream) → answer ≡ Open st → (sound st list ≡ true) × Explains [] (stateOf st list)
+use Rattle.greenwald_khanna.specs.Answers.{inserted, insertedList, quantiled}
 
 -- an accepted insert leaves a sound stream, and a list that explained it explains it with the observation added
 pub record InsertPost (st : Stream) (before : List Entry) (x : ℕ) (answer : Inserted) (list : List Entry) : Type 0 where

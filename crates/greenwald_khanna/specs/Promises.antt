@@ -9,19 +9,17 @@ use Rattle.fraction.specs.declared.Fraction.{Fraction}
 use Rattle.entries.specs.declared.Entry.{Entry}
 use Rattle.entries.specs.Entry.{entriesOf, sumG}
 use Rattle.entries.specs.Promises.{Threes}
-use Rattle.greenwald_khanna.specs.declared.Stream.{Stream}
-use Rattle.greenwald_khanna.specs.declared.Opened.{Opened}
-use Rattle.greenwald_khanna.specs.declared.Opened.the-variants.{Open}
+use Rattle.greenwald_khanna_steps.specs.declared.Stream.{Stream}
+use Rattle.greenwald_khanna_steps.specs.Sound.{sound}
+use Rattle.greenwald_khanna_steps.specs.declared.Opened.{Opened}
+use Rattle.greenwald_khanna_steps.specs.declared.Opened.the-variants.{Open}
 use Rattle.greenwald_khanna.specs.declared.Inserted.{Inserted}
 use Rattle.greenwald_khanna.specs.declared.Inserted.the-variants.{Taken}
 use Rattle.greenwald_khanna.specs.declared.Answer.{Answer}
-use Rattle.greenwald_khanna.specs.Answers.{opened, openedList, inserted, insertedList}
-use Rattle.greenwald_khanna.specs.Demand3.{Demand3}
-use Rattle.greenwald_khanna.specs.Floor.{FloorPost}
-use Rattle.greenwald_khanna.specs.Posts.{OpenPost, InsertPost, QuantilePost}
-use Rattle.greenwald_khanna.specs.Readings.{StreamReadings}
+use Rattle.greenwald_khanna_steps.specs.Opening.{opened, openedList, OpenPost}
+use Rattle.greenwald_khanna.specs.Answers.{inserted, insertedList}
+use Rattle.greenwald_khanna.specs.Posts.{InsertPost, QuantilePost}
 use Rattle.greenwald_khanna.specs.Refusals.{OpenExactly, InsertExactly, QuantileExactly, ToldExactly}
-use Rattle.greenwald_khanna.specs.Sound.{sound}
 
 -- a fresh stream is sound
 unfoldable pub FreshSound : Type 0
@@ -51,13 +49,7 @@ unfoldable pub OneQuantile : Type 0
 OneQuantile =
     (st : Stream) (list : List Entry) (φ : Fraction) (a b : Answer) → QuantilePost st list φ a → QuantilePost st list φ b → a ≡ b
 
-unfoldable pub OneFloor : Type 0
-OneFloor =
-    (ε : Fraction) (before : List Entry) (obs : List ℕ) (φ : Fraction) (a b : Answer) (xs ys : List (List ℕ)) → Threes xs → Threes ys
-    → FloorPost ε before obs φ a (entriesOf xs) → FloorPost ε before obs φ b (entriesOf ys) → (a ≡ b) × (xs ≡ ys)
-
 pub record Promises : Type 0 where
-  pub demand3 : Demand3
   pub freshSound : FreshSound
   pub acceptedSound : AcceptedSound
   pub sumsToN : SumsToN
@@ -68,5 +60,3 @@ pub record Promises : Type 0 where
   pub oneOpening : OneOpening
   pub oneInsert : OneInsert
   pub oneQuantile : OneQuantile
-  pub oneFloor : OneFloor
-  pub readings : StreamReadings

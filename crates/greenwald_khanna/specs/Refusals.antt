@@ -10,14 +10,15 @@ use Rattle.refusal.specs.declared.Refusal.the-variants.{Slots, Epsilon, Damaged
 use Rattle.fraction.specs.declared.Fraction.{Fraction}
 use Rattle.fraction.specs.Allowed.{isEpsilon, isPhi}
 use Rattle.entries.specs.declared.Entry.{Entry}
-use Rattle.greenwald_khanna.specs.declared.Stream.{Stream}
-use Rattle.greenwald_khanna.specs.declared.Opened.the-variants as opening
+use Rattle.greenwald_khanna_steps.specs.declared.Stream.{Stream}
+use Rattle.greenwald_khanna_steps.specs.Limits.{observations, slotsOk}
+use Rattle.greenwald_khanna_steps.specs.Sound.{sound}
+use Rattle.greenwald_khanna_steps.specs.Steps.{Accepts}
+use Rattle.greenwald_khanna_steps.specs.declared.Opened.the-variants as opening
 use Rattle.greenwald_khanna.specs.declared.Inserted.the-variants as inserting
 use Rattle.greenwald_khanna.specs.declared.Answer.the-variants.{Value, Refused}
-use Rattle.greenwald_khanna.specs.Answers.{opened, inserted, quantiled, told}
-use Rattle.greenwald_khanna.specs.Limits.{observations, slotsOk}
-use Rattle.greenwald_khanna.specs.Sound.{sound}
-use Rattle.greenwald_khanna.specs.Steps.{Accepts}
+use Rattle.greenwald_khanna_steps.specs.Opening.{opened}
+use Rattle.greenwald_khanna.specs.Answers.{inserted, quantiled, told}
 
 pub record OpenExactly (ε : Fraction) (list : List Entry) : Type 0 where
   pub slots : opened ε list ≡ opening.Refused Slots ↔ slotsOk (length list) ≡ false

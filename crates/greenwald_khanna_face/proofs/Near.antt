@@ -19,12 +19,13 @@ use Rattle.greenwald_khanna_face.specs.declared.parts.Question.the-varia
 use Rattle.greenwald_khanna_face.specs.Promises.{InsertInReach, AskInReach}
 use Rattle.greenwald_khanna_face.specs.Questions.{answerTo}
 use Rattle.greenwald_khanna_face.specs.Reach.{reach}
-use Rattle.greenwald_khanna.specs.declared.Stream.{Stream}
+use Rattle.greenwald_khanna_steps.specs.declared.Stream.{Stream}
+use Rattle.greenwald_khanna_steps.specs.Steps.{after}
+use Rattle.greenwald_khanna_steps.specs.Limits.{slots, slotsOk}
+use Rattle.greenwald_khanna_steps.specs.Sound.{sound}
 use Rattle.greenwald_khanna.specs.declared.Inserted.{Inserted}
 use Rattle.greenwald_khanna.specs.declared.Inserted.the-variants.{Taken, Refused}
-use Rattle.greenwald_khanna.specs.Answers.{after, inserted, insertedList, leftBy, quantiled, told}
-use Rattle.greenwald_khanna.specs.Limits.{slots, slotsOk}
-use Rattle.greenwald_khanna.specs.Sound.{sound}
+use Rattle.greenwald_khanna.specs.Answers.{inserted, insertedList, leftBy, quantiled, told}
 
 -- a list that is left, with what stands behind it
 left-with : (answer : Inserted) (new new′ old old′ behind : List Entry) → new ++ behind ≡ new′ → old ++ behind ≡ old′

@@ -14,13 +14,13 @@ use Rattle.greenwald_khanna_face.specs.declared.parts.Question.the-varia
 use Rattle.greenwald_khanna_face.specs.Promises.{OneOpening, OneInsert, InsertInReach, AskInReach}
 use Rattle.greenwald_khanna_face.specs.Questions.{answerTo}
 use Rattle.greenwald_khanna_face.specs.Reach.{reach}
-use Rattle.greenwald_khanna.specs.declared.Stream.{Stream}
+use Rattle.greenwald_khanna_steps.specs.declared.Stream.{Stream}
+use Rattle.greenwald_khanna_steps.specs.Limits.{slots, slotsOk}
 use Rattle.greenwald_khanna.specs.declared.Inserted.{Inserted}
 use Rattle.greenwald_khanna.specs.declared.Inserted.the-variants as inserting
 use Rattle.greenwald_khanna.specs.declared.Answer.{Answer}
 use Rattle.greenwald_khanna.specs.declared.Answer.the-variants.{Refused}
 use Rattle.greenwald_khanna.specs.Answers.{inserted, insertedList}
-use Rattle.greenwald_khanna.specs.Limits.{slots, slotsOk}
 use Rattle.greenwald_khanna.specs.Posts.{InsertPost}
 use Rattle.greenwald_khanna.proofs.Exactly.{insert-exactly, quantile-exactly, told-exactly}
 use Rattle.greenwald_khanna.proofs.Kept.{inserted-kept}

@@ -6,12 +6,13 @@ use mathlib.Core.List.{List, _++_}
 use lib.ListN.{length, take, drop}
 use Rattle.entries.specs.declared.Entry.{Entry}
 use Rattle.fraction.specs.declared.Fraction.{Fraction}
-use Rattle.greenwald_khanna.specs.declared.Stream.{Stream}
-use Rattle.greenwald_khanna.specs.declared.Opened.{Opened}
+use Rattle.greenwald_khanna_steps.specs.declared.Stream.{Stream}
+use Rattle.greenwald_khanna_steps.specs.Limits.{slots}
+use Rattle.greenwald_khanna_steps.specs.declared.Opened.{Opened}
 use Rattle.greenwald_khanna.specs.declared.Inserted.{Inserted}
 use Rattle.greenwald_khanna.specs.Answers.{inserted, insertedList}
-use Rattle.greenwald_khanna.specs.Limits.{slots}
-use Rattle.greenwald_khanna.specs.Posts.{OpenPost, InsertPost}
+use Rattle.greenwald_khanna_steps.specs.Opening.{OpenPost}
+use Rattle.greenwald_khanna.specs.Posts.{InsertPost}
 use Rattle.greenwald_khanna_face.specs.declared.parts.Question.{Question}
 use Rattle.greenwald_khanna_face.specs.Questions.{answerTo}
 use Rattle.greenwald_khanna_face.specs.Reach.{reach}

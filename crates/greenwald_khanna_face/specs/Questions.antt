@@ -2,7 +2,7 @@
 -- Assumes nothing: these are definitions.
 use mathlib.Core.List.{List}
 use Rattle.entries.specs.declared.Entry.{Entry}
-use Rattle.greenwald_khanna.specs.declared.Stream.{Stream}
+use Rattle.greenwald_khanna_steps.specs.declared.Stream.{Stream}
 use Rattle.greenwald_khanna.specs.declared.Answer.{Answer}
 use Rattle.greenwald_khanna.specs.Answers.{quantiled, toldP, toldN, toldS}
 use Rattle.greenwald_khanna_face.specs.declared.parts.Question.{Question}

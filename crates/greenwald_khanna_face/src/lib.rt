@@ -14,7 +14,8 @@ ghost use mathlib.Core.List.{_++_};
 ghost use Prim.Native.Nat.{_≤_};
 ghost use lib.ListN.{length, take, drop};
 ghost use Rattle.greenwald_khanna.specs.Answers.{inserted, insertedList, toldP, toldN, toldS};
-ghost use Rattle.greenwald_khanna.specs.Posts.{OpenPost, InsertPost, QuantilePost};
+ghost use Rattle.greenwald_khanna_steps.specs.Opening.{OpenPost};
+ghost use Rattle.greenwald_khanna.specs.Posts.{InsertPost, QuantilePost};
 ghost use Rattle.greenwald_khanna_face.specs.Promises.{Promises};
 ghost use Rattle.greenwald_khanna_face.specs.Questions.{answerTo};
 

@@ -36,7 +36,7 @@ pub(crate) fn insert(stream: Stream, rows: &mut [[u32; 3]], k: usize, v: u32) ->
     ensures answer { λ r. ⌜ r ≡ inserted stream (entriesOf (take k (now (rows .entry)))) v ⌝ }
     ensures rows { λ _. ⌜ entriesOf (take k (now (rows .exit))) ≡ insertedList stream (entriesOf (take k (now (rows .entry)))) v ⌝ }
 {
-    stream.insert(&mut rows[..k], v)
+    greenwald_khanna::insert(stream, &mut rows[..k], v)
 }
 
 // The core's answer, from the first k rows.
@@ -46,9 +46,9 @@ pub(crate) fn ask(stream: Stream, rows: &[[u32; 3]], k: usize, question: Questio
 {
     let part = &rows[..k];
     match question {
-        Question::Quantile(phi) => stream.quantile(part, phi),
-        Question::P => stream.p(part),
-        Question::N => stream.n(part),
-        Question::S => stream.s(part),
+        Question::Quantile(phi) => greenwald_khanna::quantile(stream, part, phi),
+        Question::P => greenwald_khanna::p(stream, part),
+        Question::N => greenwald_khanna::n(stream, part),
+        Question::S => greenwald_khanna::s(stream, part),
     }
 }

@@ -4,13 +4,13 @@ use mathlib.Core.Path.{refl}
 use Rattle.fraction.specs.Band.{halvings}
 use Rattle.entries.specs.Place.{place}
 use Rattle.greenwald_khanna_theory.specs.Readings.{Readings}
-use Rattle.greenwald_khanna_theory.specs.Sound.{neverFall, eachWithin, firstExact, lastExact, soundEntries}
+use Rattle.greenwald_khanna_theory.specs.Sound.{eachWithin, firstExact, lastExact, soundEntries}
 use Rattle.greenwald_khanna_theory.specs.State.{grown, tidied, insert}
 use Rattle.greenwald_khanna_theory.specs.Summary.{newDelta, putIn, mergeable, step, merged, compress}
 use Rattle.greenwald_khanna_theory.specs.Walk.{walk, lookUp}
 
 pub computed : Readings
-unfolding halvings place neverFall eachWithin firstExact lastExact soundEntries grown tidied insert newDelta putIn mergeable step merged compress walk lookUp
+unfolding halvings place eachWithin firstExact lastExact soundEntries grown tidied insert newDelta putIn mergeable step merged compress walk lookUp
 computed = record {
   first-in = refl;
   second-in = refl;

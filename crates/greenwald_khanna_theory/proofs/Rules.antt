@@ -8,9 +8,11 @@ use lib.Dec.{leb, eqb}
 use borrow.Author.Tests.{leb-true, eqb-true, le-leb, eq-eqb}
 use Rattle.entries.specs.declared.Entry.{Entry}
 use Rattle.entries.specs.Entry.{values, sumG}
+use Rattle.entries.specs.Order.{rising}
 use Rattle.entries.specs.Ranks.{Rising}
 use Rattle.entries.proofs.Guards.{both}
-use Rattle.greenwald_khanna_theory.specs.Sound.{neverFall, eachWithin, firstExact, lastExact, soundEntries}
+use Rattle.entries.proofs.Order.{rising-means, rising-holds}
+use Rattle.greenwald_khanna_theory.specs.Sound.{eachWithin, firstExact, lastExact, soundEntries}
 
 -- each entry has g at least 1, and g + delta at most p + 1
 abbrev pub Each : ℕ → List Entry → Type 0
@@ -39,19 +41,6 @@ pub record Entries (p n : ℕ) (es : List Entry) : Type 0 where
 -- a conjunction of two that hold
 pair : (a b : Bool) → a ≡ true → b ≡ true → a && b ≡ true
 pair a b h k = and-eq-true-iff a b .1 (h, k)
-
--- values that never fall
-rising-fact : (low : ℕ) (vs : List ℕ) → neverFall low vs ≡ true → Rising low vs
-unfolding neverFall
-rising-fact low [] h = tt
-rising-fact low (v ∷ vs) h =
-    let a = both (leb low v) (neverFall v vs) h in
-    (leb-true low v (a .0), rising-fact v vs (a .1))
-
-fact-rising : (low : ℕ) (vs : List ℕ) → Rising low vs → neverFall low vs ≡ true
-unfolding neverFall
-fact-rising low [] h = refl
-fact-rising low (v ∷ vs) h = pair (leb low v) (neverFall v vs) (le-leb low v (h .0)) (fact-rising v vs (h .1))
 
 -- each entry within its bounds
 each-fact : (p : ℕ) (es : List Entry) → eachWithin p es ≡ true → Each p es
@@ -99,12 +88,12 @@ fact-last (e ∷ f ∷ es) h = fact-last (f ∷ es) h
 pub entries-true : (p n : ℕ) (es : List Entry) → soundEntries p n es ≡ true → Entries p n es
 unfolding soundEntries
 entries-true p n es h =
-    let a = both (neverFall 0 (values es)) (eachWithin p es && (eqb (sumG es) n && (firstExact es && lastExact es))) h in
+    let a = both (rising 0 (values es)) (eachWithin p es && (eqb (sumG es) n && (firstExact es && lastExact es))) h in
     let b = both (eachWithin p es) (eqb (sumG es) n && (firstExact es && lastExact es)) (a .1) in
     let c = both (eqb (sumG es) n) (firstExact es && lastExact es) (b .1) in
     let d = both (firstExact es) (lastExact es) (c .1) in
     record {
-      sorted = rising-fact 0 (values es) (a .0);
+      sorted = rising-means 0 (values es) (a .0);
       each = each-fact p es (b .0);
       total = eqb-true (sumG es) n (c .0);
       first = first-fact es (d .0);
@@ -115,7 +104,7 @@ entries-true p n es h =
 pub true-entries : (p n : ℕ) (es : List Entry) → Entries p n es → soundEntries p n es ≡ true
 unfolding soundEntries
 true-entries p n es h =
-    pair (neverFall 0 (values es)) (eachWithin p es && (eqb (sumG es) n && (firstExact es && lastExact es))) (fact-rising 0 (values es) (h .sorted))
+    pair (rising 0 (values es)) (eachWithin p es && (eqb (sumG es) n && (firstExact es && lastExact es))) (rising-holds 0 (values es) (h .sorted))
     (pair (eachWithin p es) (eqb (sumG es) n && (firstExact es && lastExact es)) (fact-each p es (h .each))
     (pair (eqb (sumG es) n) (firstExact es && lastExact es) (eq-eqb (sumG es) n (h .total))
     (pair (firstExact es) (lastExact es) (fact-first es (h .first)) (fact-last es (h .last)))))

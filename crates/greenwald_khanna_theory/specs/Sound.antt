@@ -6,11 +6,7 @@ use mathlib.Core.List.{List, [], _∷_}
 use lib.Dec.{leb, eqb}
 use Rattle.entries.specs.declared.Entry.{Entry}
 use Rattle.entries.specs.Entry.{values, sumG}
-
--- values never fall, from `low` on
-unfoldable pub neverFall : ℕ → List ℕ → Bool
-neverFall low [] = true
-neverFall low (v ∷ vs) = leb low v && neverFall v vs
+use Rattle.entries.specs.Order.{rising}
 
 -- each g is at least 1, and each g + delta at most p + 1
 unfoldable pub eachWithin : ℕ → List Entry → Bool
@@ -30,4 +26,4 @@ lastExact (e ∷ f ∷ es) = lastExact (f ∷ es)
 
 -- the entries of a stream of n observations with p = ⌊2εn⌋; that there are none exactly when n is 0 follows from each g ≥ 1 and the sum
 unfoldable pub soundEntries : ℕ → ℕ → List Entry → Bool
-soundEntries p n es = neverFall 0 (values es) && (eachWithin p es && (eqb (sumG es) n && (firstExact es && lastExact es)))
+soundEntries p n es = rising 0 (values es) && (eachWithin p es && (eqb (sumG es) n && (firstExact es && lastExact es)))

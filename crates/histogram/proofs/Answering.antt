@@ -8,12 +8,13 @@ use lib.ListN.{length}
 use Rattle.entries.specs.Total.{total}
 use Rattle.histogram_rows.specs.declared.Bound.{Bound}
 use Rattle.histogram_rows.specs.Bins.{binsBetween, Binned}
-use Rattle.histogram.specs.declared.Histogram.{Histogram}
-use Rattle.histogram.specs.declared.Standing.{Standing}
+use Rattle.histogram_steps.specs.declared.Histogram.{Histogram}
+use Rattle.histogram_steps.specs.declared.Standing.{Standing}
+use Rattle.histogram_steps.specs.State.{observations}
+use Rattle.histogram_steps.specs.Standing.{standing, left}
+use Rattle.histogram_steps.proofs.Standings.{Ready}
 use Rattle.histogram.specs.declared.Counted.{Counted}
-use Rattle.histogram.specs.State.{observations}
-use Rattle.histogram.specs.Answers.{standing, counting, summing, left, binsAnswer}
-use Rattle.histogram.proofs.Cases.{Ready}
+use Rattle.histogram.specs.Answers.{counting, summing, binsAnswer}
 
 -- an answer goes by the standing alone
 module _ {s t : Standing} (e : s ≡ t) where

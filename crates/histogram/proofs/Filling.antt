@@ -20,16 +20,16 @@ use Rattle.histogram_rows.specs.Bounds.{binOf}
 use Rattle.histogram_rows.specs.Bins.{totalBelow, counted}
 use Rattle.histogram_rows.proofs.Binning.{bin-fits}
 use Rattle.histogram_rows.proofs.Choosing.{ending-finite, chosen-below}
-use Rattle.histogram.specs.declared.Sum.the-variants.{Some}
-use Rattle.histogram.specs.declared.Standing.the-variants.{Fine}
-use Rattle.histogram.specs.Bounds.{allowed}
-use Rattle.histogram.specs.State.{observations, largest, plus}
+use Rattle.histogram_steps.specs.declared.Sum.the-variants.{Some}
+use Rattle.histogram_steps.specs.declared.Standing.the-variants.{Fine}
+use Rattle.histogram_steps.specs.Bounds.{allowed}
+use Rattle.histogram_steps.specs.State.{observations, largest, plus}
+use Rattle.histogram_steps.proofs.Sounds.{allowed-means, sound-holds}
+use Rattle.histogram_steps.proofs.Keeping.{fresh-sound, taken-sound}
+use Rattle.histogram_steps.proofs.Standings.{sound-fine}
 use Rattle.histogram.specs.Answers.{insertStanding}
 use Rattle.histogram.specs.Runs.{Held, opened, afterInsert, filled, Words, sumOf, inBin, Tells}
 use Rattle.histogram.specs.Laws.{FilledTells}
-use Rattle.histogram.proofs.Sounds.{allowed-means, sound-holds}
-use Rattle.histogram.proofs.Keeping.{fresh-sound, taken-sound}
-use Rattle.histogram.proofs.Cases.{sound-fine}
 
 -- a value's bin is one of those up to the bound u exactly if the value is at most u
 same-share : (bs : List ℕ) (u x : ℕ) → Member bs u → isBelow (binOf bs x) (upto bs u) ≡ isUpto x u

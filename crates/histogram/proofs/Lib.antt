@@ -1,5 +1,3 @@
-pub mod Sounds
-pub mod Keeping
 pub mod Cases
 pub mod Answering
 pub mod Filling

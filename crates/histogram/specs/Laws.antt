@@ -9,16 +9,18 @@ use lib.ListN.{length}
 use Rattle.entries.specs.Total.{total}
 use Rattle.histogram_rows.specs.declared.Bound.{Bound}
 use Rattle.histogram_rows.specs.Bins.{totalBelow, totalAbove}
-use Rattle.histogram.specs.declared.Histogram.{Histogram}
-use Rattle.histogram.specs.declared.Standing.the-variants.{Fine}
-use Rattle.histogram.specs.declared.Opened.{Opened}
+use Rattle.histogram_steps.specs.declared.Histogram.{Histogram}
+use Rattle.histogram_steps.specs.declared.Standing.the-variants.{Fine}
+use Rattle.histogram_steps.specs.Bounds.{allowed}
+use Rattle.histogram_steps.specs.State.{observations}
+use Rattle.histogram_steps.specs.Sound.{Sound, sound}
+use Rattle.histogram_steps.specs.Standing.{standing}
+use Rattle.histogram_steps.specs.declared.Opened.{Opened}
 use Rattle.histogram.specs.declared.Inserted.{Inserted}
 use Rattle.histogram.specs.declared.Counted.{Counted}
-use Rattle.histogram.specs.Bounds.{allowed}
-use Rattle.histogram.specs.State.{observations}
-use Rattle.histogram.specs.Sound.{Sound, sound}
-use Rattle.histogram.specs.Answers.{standing, betweenAnswer, binsAnswer}
-use Rattle.histogram.specs.Contracts.{OpenPost, InsertPost}
+use Rattle.histogram.specs.Answers.{betweenAnswer, binsAnswer}
+use Rattle.histogram_steps.specs.Opening.{OpenPost}
+use Rattle.histogram.specs.Contracts.{InsertPost}
 use Rattle.histogram.specs.Runs.{opened, filled, Words, Tells}
 
 -- the test that the calls make is the rules

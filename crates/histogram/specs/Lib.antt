@@ -1,6 +1,3 @@
-pub mod Bounds
-pub mod State
-pub mod Sound
 pub mod Answers
 pub mod Contracts
 pub mod Runs

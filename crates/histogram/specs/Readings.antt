@@ -4,7 +4,7 @@ use mathlib.Core.Path.{_≡_}
 use mathlib.Core.List.{[], _∷_}
 use Rattle.histogram_rows.specs.declared.Bound.the-variants.{Finite, PosInf}
 use Rattle.histogram_rows.specs.Bins.{totalBelow, totalAbove, totalBetween}
-use Rattle.histogram.specs.declared.Sum.the-variants.{Some}
+use Rattle.histogram_steps.specs.declared.Sum.the-variants.{Some}
 use Rattle.histogram.specs.Runs.{Held, opened, filled}
 
 -- bounds 10, 100 with 99, 100

@@ -11,12 +11,13 @@ use Rattle.entries.specs.Total.{total}
 use Rattle.histogram_rows.specs.declared.Bound.the-variants.{Finite}
 use Rattle.histogram_rows.specs.Bounds.{binOf}
 use Rattle.histogram_rows.specs.Bins.{totalBelow, counted}
-use Rattle.histogram.specs.declared.Sum.{Sum}
-use Rattle.histogram.specs.declared.Sum.the-variants.{Nothing, Some}
-use Rattle.histogram.specs.declared.Histogram.{Histogram}
-use Rattle.histogram.specs.State.{largest, fresh, taken}
-use Rattle.histogram.specs.Sound.{Sound}
-use Rattle.histogram.specs.Answers.{insertStanding, left}
+use Rattle.histogram_steps.specs.declared.Sum.{Sum}
+use Rattle.histogram_steps.specs.declared.Sum.the-variants.{Nothing, Some}
+use Rattle.histogram_steps.specs.declared.Histogram.{Histogram}
+use Rattle.histogram_steps.specs.State.{largest, fresh, taken}
+use Rattle.histogram_steps.specs.Sound.{Sound}
+use Rattle.histogram_steps.specs.Standing.{left}
+use Rattle.histogram.specs.Answers.{insertStanding}
 
 -- what a caller holds between two calls, beside the bounds
 pub record Held : Type 0 where

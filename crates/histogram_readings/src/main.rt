@@ -65,7 +65,7 @@ fn after(answer: Inserted, before: Histogram) -> Histogram {
 fn insert_below(start: Histogram, bounds: &[u32], counts: &mut [u32], end: u32) -> Histogram {
     let mut h = start;
     for v in 0..end {
-        h = after(h.insert(bounds, counts, v), h);
+        h = after(histogram::insert(h, bounds, counts, v), h);
     }
     h
 }
@@ -73,27 +73,33 @@ fn insert_below(start: Histogram, bounds: &[u32], counts: &mut [u32], end: u32) 
 // What a histogram tells.
 fn say_totals(h: Histogram, bounds: &[u32], counts: &[u32]) {
     say_all(counts);
-    say_counted(b"count ", h.count(bounds, counts));
-    say_summed(b"sum ", h.sum(bounds, counts));
+    say_counted(b"count ", histogram::count(h, bounds, counts));
+    say_summed(b"sum ", histogram::sum(h, bounds, counts));
     say_counted(
         b"above 0 is ",
-        h.total_above(bounds, counts, Bound::Finite(0)),
+        histogram::total_above(h, bounds, counts, Bound::Finite(0)),
     );
     say_counted(
         b"above 11 is ",
-        h.total_above(bounds, counts, Bound::Finite(11)),
+        histogram::total_above(h, bounds, counts, Bound::Finite(11)),
     );
     say_counted(
         b"above 10 is ",
-        h.total_above(bounds, counts, Bound::Finite(10)),
+        histogram::total_above(h, bounds, counts, Bound::Finite(10)),
     );
     say_counted(
         b"below +Inf is ",
-        h.total_below(bounds, counts, Bound::PosInf),
+        histogram::total_below(h, bounds, counts, Bound::PosInf),
     );
-    let near = h.total_between(bounds, counts, Bound::Finite(1987), Bound::Finite(1990));
+    let near = histogram::total_between(
+        h,
+        bounds,
+        counts,
+        Bound::Finite(1987),
+        Bound::Finite(1990),
+    );
     say_counted(b"between 1987 and 1990 is ", near);
-    say_all(h.bins(bounds, counts, Bound::Finite(10), Bound::Finite(1990)));
+    say_all(histogram::bins(h, bounds, counts, Bound::Finite(10), Bound::Finite(1990)));
 }
 
 // Reading 8. The counts are not zero before opening.
@@ -104,7 +110,7 @@ fn reading() {
     let Opened::Open(empty) = opened else {
         return;
     };
-    say_summed(b"sum ", empty.sum(&bounds, &counts));
+    say_summed(b"sum ", histogram::sum(empty, &bounds, &counts));
     let h = insert_below(empty, &bounds, &mut counts, 2048);
     say_totals(h, &bounds, &counts);
 }
@@ -135,14 +141,20 @@ fn refused_inserts() {
         count: 1000000000,
         sum: Sum::Nothing,
     };
-    say_inserted(full.insert(&bounds[..0], &mut counts, 5));
-    say_inserted(damaged.insert(&bounds, &mut counts, 5));
-    say_inserted(full.insert(&bounds, &mut counts, 5));
+    say_inserted(histogram::insert(full, &bounds[..0], &mut counts, 5));
+    say_inserted(histogram::insert(damaged, &bounds, &mut counts, 5));
+    say_inserted(histogram::insert(full, &bounds, &mut counts, 5));
     say_all(&counts);
-    say_all(damaged.bins(&bounds, &counts, Bound::Finite(0), Bound::PosInf));
-    say::line(b"bins refused ", damaged.bins_refusal(&bounds, &counts));
-    say_all(full.bins(&bounds, &counts, Bound::Finite(0), Bound::PosInf));
-    say::line(b"bins refused ", full.bins_refusal(&bounds, &counts));
+    say_all(histogram::bins(damaged, &bounds, &counts, Bound::Finite(0), Bound::PosInf));
+    say::line(
+        b"bins refused ",
+        histogram::bins_refusal(damaged, &bounds, &counts),
+    );
+    say_all(histogram::bins(full, &bounds, &counts, Bound::Finite(0), Bound::PosInf));
+    say::line(
+        b"bins refused ",
+        histogram::bins_refusal(full, &bounds, &counts),
+    );
 }
 
 fn main() {

@@ -1,6 +1,5 @@
 // The bounds of the bins: their order, and where a bound stands among them.
 use crate::Bound;
-use entries::search;
 ghost use mathlib.Core.Path.{_≡_};
 ghost use Prim.Native.Nat.{suc, _≤_};
 ghost use lib.ListN.{length};

@@ -1,7 +1,6 @@
 // The counts of the bins: their total, and those of the bins that are asked for.
 use crate::Bound;
 use crate::bounds;
-use entries::search;
 use fraction::wide;
 ghost use mathlib.Core.Path.{_≡_};
 ghost use Prim.Native.Nat.{_≤_, _<_};

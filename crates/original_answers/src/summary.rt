@@ -71,12 +71,12 @@ fn ckms_after(answer: ckms::Inserted) -> Summary {
 // A store takes a value, or is compressed.
 fn store_after(s: Store, rows: &mut [[u32; 3]], lens: &mut [u32], v: u32) -> Summary {
     if v == COMPRESS {
-        return match s.compress(rows, lens) {
+        return match ckms_store::compress(s, rows, lens) {
             ckms_store::Compressed::Done(t) => Summary::Store(t),
             ckms_store::Compressed::Refused(why) => Summary::Refused(why),
         };
     }
-    match s.insert(rows, lens, v) {
+    match ckms_store::insert(s, rows, lens, v) {
         ckms_store::Inserted::Taken(t) => Summary::Store(t),
         ckms_store::Inserted::Refused(why) => Summary::Refused(why),
     }
@@ -106,10 +106,10 @@ impl Summary {
     // One observation more.
     fn take(self, bounds: &[u32], rows: &mut [[u32; 3]], numbers: &mut [u32], v: u32) -> Summary {
         match self {
-            Summary::Stream(s) => stream_after(s.insert(rows, v)),
-            Summary::Histogram(h) => histogram_after(h.insert(bounds, numbers, v)),
+            Summary::Stream(s) => stream_after(greenwald_khanna::insert(s, rows, v)),
+            Summary::Histogram(h) => histogram_after(histogram::insert(h, bounds, numbers, v)),
             Summary::Store(s) => store_after(s, rows, numbers, v),
-            Summary::CKMS(c) => ckms_after(c.insert(rows, numbers, v)),
+            Summary::CKMS(c) => ckms_after(ckms::insert(c, rows, numbers, v)),
             Summary::Refused(why) => Summary::Refused(why),
         }
     }

@@ -129,26 +129,26 @@ fn say_blocks(lens: &[u32], blocks: u32) {
 }
 
 fn tell_stream(s: Stream, rows: &[[u32; 3]]) {
-    say_answer(b"n ", s.n(rows));
+    say_answer(b"n ", greenwald_khanna::n(s, rows));
     say_entries(rows, s.held);
 }
 
 // What a histogram totals at one of its bounds.
 fn tell_bound(h: Histogram, bounds: &[u32], counts: &[u32], x: u32) {
     let bound = Bound::Finite(x);
-    say_total(b"below ", h.total_below(bounds, counts, bound));
-    say_total(b"above ", h.total_above(bounds, counts, bound));
+    say_total(b"below ", histogram::total_below(h, bounds, counts, bound));
+    say_total(b"above ", histogram::total_above(h, bounds, counts, bound));
     say_total(
         b"between ",
-        h.total_between(bounds, counts, bound, Bound::PosInf),
+        histogram::total_between(h, bounds, counts, bound, Bound::PosInf),
     );
 }
 
 fn tell_histogram(h: Histogram, bounds: &[u32], counts: &[u32]) {
     let mut bin = 0;
     say::list(b"bin ", b"\nbin ", counts);
-    say_total(b"count ", h.count(bounds, counts));
-    say_sum(h.sum(bounds, counts));
+    say_total(b"count ", histogram::count(h, bounds, counts));
+    say_sum(histogram::sum(h, bounds, counts));
     while bin < bounds.len() {
         tell_bound(h, bounds, counts, bounds[bin]);
         bin += 1;
@@ -162,9 +162,9 @@ fn tell_store(s: Store, rows: &[[u32; 3]], lens: &[u32]) {
 }
 
 fn tell_ckms(c: CKMS, rows: &[[u32; 3]], lens: &[u32]) {
-    say_count(c.count(rows, lens));
-    say_last(c.last(rows, lens));
-    say_mean(c.cma(rows, lens));
+    say_count(ckms::count(c, rows, lens));
+    say_last(ckms::last(c, rows, lens));
+    say_mean(ckms::cma(c, rows, lens));
     say::line(b"inserts ", c.inserts);
     say_blocks(lens, c.blocks);
     say_entries(rows, c.held);
@@ -173,9 +173,9 @@ fn tell_ckms(c: CKMS, rows: &[[u32; 3]], lens: &[u32]) {
 // The answer at one fraction of the observations; a histogram has none.
 fn tell_at(told: Summary, rows: &[[u32; 3]], lens: &[u32], q: Fraction) {
     match told {
-        Summary::Stream(s) => say_answer(b"quantile ", s.quantile(rows, q)),
-        Summary::Store(s) => say_ranked(s.query(rows, lens, q)),
-        Summary::CKMS(c) => say_ranked(c.query(rows, lens, q)),
+        Summary::Stream(s) => say_answer(b"quantile ", greenwald_khanna::quantile(s, rows, q)),
+        Summary::Store(s) => say_ranked(ckms_store::query(s, rows, lens, q)),
+        Summary::CKMS(c) => say_ranked(ckms::query(c, rows, lens, q)),
         _ => {}
     }
 }

@@ -1,10 +1,10 @@
 -- Any two outcomes of a call coincide: both are the core's, in numbers.
 -- Assumes nothing.
 use mathlib.Core.Path.{sym, ap, _∙_}
-use Rattle.words.specs.Streams as stream
-use Rattle.words.specs.Histograms as histogram
-use Rattle.words.specs.Stores as store
-use Rattle.words.specs.CkmsAnswers as ckms
+use Rattle.stream_words.specs.Streams as stream
+use Rattle.histogram_words.specs.Histograms as histogram
+use Rattle.store_words.specs.Stores as store
+use Rattle.ckms_answer_words.specs.CkmsAnswers as ckms
 use Rattle.quantiles_c.specs.Laws.{StreamOpensOneWay, StreamInsertsOneWay, StreamAnswersOneWay, HistogramOpensOneWay, HistogramInsertsOneWay, BinsOneWay, StoreOpensOneWay, StoreInsertsOneWay, StoreCompressesOneWay, CkmsOpensOneWay, CkmsInsertsOneWay}
 
 pub stream-opens : StreamOpensOneWay

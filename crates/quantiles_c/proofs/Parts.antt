@@ -7,35 +7,19 @@ use native.Mathlib.Omega.{arith}
 use borrow.Author.Tests.{ne-eqb}
 use lib.ListN.{length, take, drop, length-drop}
 use lib.Seq.{length-take-le}
-use Rattle.refusal.specs.declared.Refusal.{Refusal}
-use Rattle.refusal.specs.declared.Refusal.the-variants.{Slots, Epsilon, Block, Damaged, Count, Full, Phi, Empty, BoundsEmpty, BoundsMany, BoundsOrder, File}
-use Rattle.refusal.specs.Number.{numberOf}
+use Rattle.refusal.proofs.Numbers.{numbered}
 use Rattle.histogram_rows.specs.declared.Bound.{Bound}
 use Rattle.histogram_rows.specs.declared.Bound.the-variants.{PosInf}
-use Rattle.histogram.specs.declared.Histogram.{Histogram}
-use Rattle.histogram.specs.declared.Standing.{Standing}
-use Rattle.histogram.specs.declared.Standing.the-variants.{Fine, Refused}
+use Rattle.histogram_steps.specs.declared.Histogram.{Histogram}
+use Rattle.histogram_steps.specs.declared.Standing.{Standing}
+use Rattle.histogram_steps.specs.declared.Standing.the-variants.{Fine, Refused}
 use Rattle.histogram_rows.specs.Bounds.{ending}
 use Rattle.histogram_rows.specs.Bins.{binsBetween}
-use Rattle.histogram.specs.Answers.{standing, left, number, binsAnswer, binsNumber}
-use Rattle.histogram.proofs.Cases.{Ready, ready}
+use Rattle.histogram_steps.specs.Standing.{standing, left}
+use Rattle.histogram.specs.Answers.{number, binsAnswer, binsNumber}
+use Rattle.histogram_steps.proofs.Standings.{Ready, ready}
 use Rattle.histogram_rows.proofs.Choosing.{ending-inf, ending-le, between-part}
 use Rattle.quantiles_c.specs.HistogramPosts.{BinsPost}
-
--- no refusal has the number 0
-numbered : (why : Refusal) → 1 ≤ numberOf why
-numbered Slots = omega arith
-numbered Epsilon = omega arith
-numbered Block = omega arith
-numbered Damaged = omega arith
-numbered Count = omega arith
-numbered Full = omega arith
-numbered Phi = omega arith
-numbered Empty = omega arith
-numbered BoundsEmpty = omega arith
-numbered BoundsMany = omega arith
-numbered BoundsOrder = omega arith
-numbered File = omega arith
 
 module _ (h : Histogram) (bs cs : List ℕ) where
   pub bins-refused : (l u : Bound) {k : ℕ} → k ≡ binsNumber h bs cs → (k ≡ 0 → ⊥)

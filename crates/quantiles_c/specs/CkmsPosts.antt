@@ -4,15 +4,16 @@ use mathlib.Core.Path.{_≡_}
 use Prim.Native.Nat.{ℕ}
 use mathlib.Core.List.{List}
 use Rattle.entries.specs.declared.Entry.{Entry}
-use Rattle.ckms.specs.declared.Opened.{Opened}
+use Rattle.ckms_steps.specs.declared.Opened.{Opened}
 use Rattle.ckms.specs.declared.Inserted.{Inserted}
-use Rattle.ckms.specs.Posts.{OpenPost, InsertPost}
+use Rattle.ckms_steps.specs.Opening.{OpenPost}
+use Rattle.ckms.specs.Posts.{InsertPost}
 use Rattle.words.specs.declared.Ratio.{Ratio}
-use Rattle.words.specs.declared.ckmses.CkmsWords.{CkmsWords}
-use Rattle.words.specs.declared.ckms_answers.CkmsAnswer.{CkmsAnswer}
+use Rattle.ckms_words.specs.declared.CkmsWords.{CkmsWords}
+use Rattle.ckms_answer_words.specs.declared.CkmsAnswer.{CkmsAnswer}
 use Rattle.words.specs.Words.{fractionOf}
-use Rattle.words.specs.Ckmses.{ckmsOf}
-use Rattle.words.specs.CkmsAnswers.{flatOpened, flatInserted}
+use Rattle.ckms_words.specs.Ckmses.{ckmsOf}
+use Rattle.ckms_answer_words.specs.CkmsAnswers.{flatOpened, flatInserted}
 
 -- `stelo_ckms_open`
 pub record CkmsOpenPost (error : Ratio) (list : List Entry) (lens : List ℕ)

@@ -7,16 +7,17 @@ use mathlib.Core.List.{List}
 use lib.Dec.{eqb}
 use lib.ListN.{length, take, drop}
 use Rattle.histogram_rows.specs.declared.Bound.{Bound}
-use Rattle.histogram.specs.declared.Histogram.{Histogram}
-use Rattle.histogram.specs.declared.Opened.{Opened}
+use Rattle.histogram_steps.specs.declared.Histogram.{Histogram}
+use Rattle.histogram_steps.specs.declared.Opened.{Opened}
 use Rattle.histogram.specs.declared.Inserted.{Inserted}
-use Rattle.histogram.specs.Contracts.{OpenPost, InsertPost}
+use Rattle.histogram_steps.specs.Opening.{OpenPost}
+use Rattle.histogram.specs.Contracts.{InsertPost}
 use Rattle.histogram.specs.Answers.{binsAnswer, binsNumber}
 use Rattle.histogram_rows.specs.Bounds.{ending}
-use Rattle.words.specs.declared.histograms.HistogramWords.{HistogramWords}
-use Rattle.words.specs.declared.histograms.HistogramAnswer.{HistogramAnswer}
-use Rattle.words.specs.declared.histograms.Part.{Part}
-use Rattle.words.specs.Histograms.{histogramOf, flatOpened, flatInserted}
+use Rattle.histogram_words.specs.declared.HistogramWords.{HistogramWords}
+use Rattle.histogram_words.specs.declared.HistogramAnswer.{HistogramAnswer}
+use Rattle.histogram_words.specs.declared.Part.{Part}
+use Rattle.histogram_words.specs.Histograms.{histogramOf, flatOpened, flatInserted}
 
 -- `stelo_histogram_open`
 pub record HistogramOpenPost (bs cs : List ℕ) (answer : HistogramAnswer) (cs′ : List ℕ) : Type 0 where

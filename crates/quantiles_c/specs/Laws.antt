@@ -5,18 +5,18 @@ use Prim.Native.Nat.{ℕ}
 use mathlib.Core.List.{List}
 use Rattle.entries.specs.declared.Entry.{Entry}
 use Rattle.histogram_rows.specs.declared.Bound.{Bound}
-use Rattle.histogram.specs.declared.Histogram.{Histogram}
+use Rattle.histogram_steps.specs.declared.Histogram.{Histogram}
 use Rattle.words.specs.declared.Number.{Number}
 use Rattle.words.specs.declared.Ratio.{Ratio}
-use Rattle.words.specs.declared.streams.StreamWords.{StreamWords}
-use Rattle.words.specs.declared.streams.StreamAnswer.{StreamAnswer}
-use Rattle.words.specs.declared.histograms.HistogramWords.{HistogramWords}
-use Rattle.words.specs.declared.histograms.HistogramAnswer.{HistogramAnswer}
-use Rattle.words.specs.declared.histograms.Part.{Part}
-use Rattle.words.specs.declared.stores.StoreWords.{StoreWords}
-use Rattle.words.specs.declared.stores.StoreAnswer.{StoreAnswer}
-use Rattle.words.specs.declared.ckmses.CkmsWords.{CkmsWords}
-use Rattle.words.specs.declared.ckms_answers.CkmsAnswer.{CkmsAnswer}
+use Rattle.stream_words.specs.declared.StreamWords.{StreamWords}
+use Rattle.stream_words.specs.declared.StreamAnswer.{StreamAnswer}
+use Rattle.histogram_words.specs.declared.HistogramWords.{HistogramWords}
+use Rattle.histogram_words.specs.declared.HistogramAnswer.{HistogramAnswer}
+use Rattle.histogram_words.specs.declared.Part.{Part}
+use Rattle.store_words.specs.declared.StoreWords.{StoreWords}
+use Rattle.store_words.specs.declared.StoreAnswer.{StoreAnswer}
+use Rattle.ckms_words.specs.declared.CkmsWords.{CkmsWords}
+use Rattle.ckms_answer_words.specs.declared.CkmsAnswer.{CkmsAnswer}
 use Rattle.quantiles_c.specs.StreamPosts.{StreamOpenPost, StreamInsertPost, StreamQuantilePost}
 use Rattle.quantiles_c.specs.HistogramPosts.{HistogramOpenPost, HistogramInsertPost, BinsPost}
 use Rattle.quantiles_c.specs.StorePosts.{StoreOpenPost, StoreInsertPost, StoreCompressPost}

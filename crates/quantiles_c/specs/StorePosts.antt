@@ -4,15 +4,16 @@ use mathlib.Core.Path.{_≡_}
 use Prim.Native.Nat.{ℕ}
 use mathlib.Core.List.{List}
 use Rattle.entries.specs.declared.Entry.{Entry}
-use Rattle.ckms_store.specs.declared.Opened.{Opened}
+use Rattle.ckms_store_steps.specs.declared.Opened.{Opened}
 use Rattle.ckms_store.specs.declared.Inserted.{Inserted}
 use Rattle.ckms_store.specs.declared.Compressed.{Compressed}
-use Rattle.ckms_store.specs.Posts.{OpenPost, InsertPost, CompressPost}
+use Rattle.ckms_store_steps.specs.Opening.{OpenPost}
+use Rattle.ckms_store.specs.Posts.{InsertPost, CompressPost}
 use Rattle.words.specs.declared.Ratio.{Ratio}
-use Rattle.words.specs.declared.stores.StoreWords.{StoreWords}
-use Rattle.words.specs.declared.stores.StoreAnswer.{StoreAnswer}
+use Rattle.store_words.specs.declared.StoreWords.{StoreWords}
+use Rattle.store_words.specs.declared.StoreAnswer.{StoreAnswer}
 use Rattle.words.specs.Words.{fractionOf}
-use Rattle.words.specs.Stores.{storeOf, flatOpened, flatInserted, flatCompressed}
+use Rattle.store_words.specs.Stores.{storeOf, flatOpened, flatInserted, flatCompressed}
 
 -- `stelo_store_open`
 pub record StoreOpenPost (error : Ratio) (block : ℕ) (list : List Entry) (lens : List ℕ)

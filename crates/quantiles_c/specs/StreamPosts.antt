@@ -4,16 +4,17 @@ use mathlib.Core.Path.{_≡_}
 use Prim.Native.Nat.{ℕ}
 use mathlib.Core.List.{List}
 use Rattle.entries.specs.declared.Entry.{Entry}
-use Rattle.greenwald_khanna.specs.declared.Opened.{Opened}
+use Rattle.greenwald_khanna_steps.specs.declared.Opened.{Opened}
 use Rattle.greenwald_khanna.specs.declared.Inserted.{Inserted}
 use Rattle.greenwald_khanna.specs.declared.Answer.{Answer}
-use Rattle.greenwald_khanna.specs.Posts.{OpenPost, InsertPost, QuantilePost}
+use Rattle.greenwald_khanna_steps.specs.Opening.{OpenPost}
+use Rattle.greenwald_khanna.specs.Posts.{InsertPost, QuantilePost}
 use Rattle.words.specs.declared.Number.{Number}
 use Rattle.words.specs.declared.Ratio.{Ratio}
-use Rattle.words.specs.declared.streams.StreamWords.{StreamWords}
-use Rattle.words.specs.declared.streams.StreamAnswer.{StreamAnswer}
+use Rattle.stream_words.specs.declared.StreamWords.{StreamWords}
+use Rattle.stream_words.specs.declared.StreamAnswer.{StreamAnswer}
 use Rattle.words.specs.Words.{fractionOf}
-use Rattle.words.specs.Streams.{streamOf, flatOpened, flatInserted, flatAnswer}
+use Rattle.stream_words.specs.Streams.{streamOf, flatOpened, flatInserted, flatAnswer}
 
 -- `stelo_stream_open`
 pub record StreamOpenPost (epsilon : Ratio) (before : List Entry) (answer : StreamAnswer) (list : List Entry) : Type 0 where

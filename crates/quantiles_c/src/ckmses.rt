@@ -1,27 +1,27 @@
 // The calls on a CKMS.
 use ckms::CKMS;
+use ckms_answer_words::CkmsAnswer;
+use ckms_answer_words::ErrorAnswer;
+use ckms_answer_words::LastAnswer;
+use ckms_answer_words::MeanAnswer;
+use ckms_answer_words::counted;
+use ckms_answer_words::inserted;
+use ckms_answer_words::opened;
+use ckms_answer_words::told_error;
+use ckms_answer_words::told_last;
+use ckms_answer_words::told_mean;
+use ckms_words::CkmsWords;
+use store_words::RankedAnswer;
+use store_words::ranked;
 use words::Number;
 use words::Ratio;
-use words::ckms_answers::CkmsAnswer;
-use words::ckms_answers::ErrorAnswer;
-use words::ckms_answers::LastAnswer;
-use words::ckms_answers::MeanAnswer;
-use words::ckms_answers::counted;
-use words::ckms_answers::inserted;
-use words::ckms_answers::opened;
-use words::ckms_answers::told_error;
-use words::ckms_answers::told_last;
-use words::ckms_answers::told_mean;
-use words::ckmses::CkmsWords;
-use words::stores::RankedAnswer;
-use words::stores::ranked;
 ghost use mathlib.Core.Path.{_≡_};
 ghost use Rattle.entries.specs.Entry.{entriesOf};
 ghost use Rattle.ckms.specs.Answers.{queried, countOf, lastOf, cmaOf, errorOf};
 ghost use Rattle.words.specs.Words.{fractionOf};
-ghost use Rattle.words.specs.Stores.{flatRanked};
-ghost use Rattle.words.specs.Ckmses.{ckmsOf};
-ghost use Rattle.words.specs.CkmsAnswers.{flatCounted, flatLast, flatAverage, flatError};
+ghost use Rattle.store_words.specs.Stores.{flatRanked};
+ghost use Rattle.ckms_words.specs.Ckmses.{ckmsOf};
+ghost use Rattle.ckms_answer_words.specs.CkmsAnswers.{flatCounted, flatLast, flatAverage, flatError};
 ghost use Rattle.quantiles_c.specs.CkmsPosts.{CkmsOpenPost, CkmsInsertPost};
 
 // A fresh CKMS. Refused: SLOTS, EPSILON.
@@ -46,7 +46,7 @@ pub extern "C" fn stelo_ckms_insert(
 ) -> CkmsAnswer
     ensures { λ r. ⌜ CkmsInsertPost ckms (entriesOf (now (list .entry))) (now (blocks .entry)) v r (entriesOf (now (list .exit))) (now (blocks .exit)) ⌝ }
 {
-    inserted(ckms.ckms().insert(list, blocks, v), ckms)
+    inserted(ckms::insert(ckms.ckms(), list, blocks, v), ckms)
 }
 
 // The rank and the value at q. Refused: SLOTS, DAMAGED, PHI, EMPTY.
@@ -59,7 +59,7 @@ pub extern "C" fn stelo_ckms_query(
 ) -> RankedAnswer
     ensures { λ r. ⌜ r ≡ flatRanked (queried (ckmsOf ckms) (entriesOf (now (list .entry))) (now (blocks .entry)) (fractionOf q)) ⌝ }
 {
-    ranked(ckms.ckms().query(list, blocks, q.fraction()))
+    ranked(ckms::query(ckms.ckms(), list, blocks, q.fraction()))
 }
 
 // How many observations were accepted. Refused: SLOTS, DAMAGED.
@@ -67,7 +67,7 @@ pub extern "C" fn stelo_ckms_query(
 pub extern "C" fn stelo_ckms_count(ckms: CkmsWords, list: &[[u32; 3]], blocks: &[u32]) -> Number
     ensures { λ r. ⌜ r ≡ flatCounted (countOf (ckmsOf ckms) (entriesOf (now (list .entry))) (now (blocks .entry))) ⌝ }
 {
-    counted(ckms.ckms().count(list, blocks))
+    counted(ckms::count(ckms.ckms(), list, blocks))
 }
 
 // The observation accepted last. Refused: SLOTS, DAMAGED.
@@ -75,7 +75,7 @@ pub extern "C" fn stelo_ckms_count(ckms: CkmsWords, list: &[[u32; 3]], blocks: &
 pub extern "C" fn stelo_ckms_last(ckms: CkmsWords, list: &[[u32; 3]], blocks: &[u32]) -> LastAnswer
     ensures { λ r. ⌜ r ≡ flatLast (lastOf (ckmsOf ckms) (entriesOf (now (list .entry))) (now (blocks .entry))) ⌝ }
 {
-    told_last(ckms.ckms().last(list, blocks))
+    told_last(ckms::last(ckms.ckms(), list, blocks))
 }
 
 // The running mean. Refused: SLOTS, DAMAGED.
@@ -83,7 +83,7 @@ pub extern "C" fn stelo_ckms_last(ckms: CkmsWords, list: &[[u32; 3]], blocks: &[
 pub extern "C" fn stelo_ckms_cma(ckms: CkmsWords, list: &[[u32; 3]], blocks: &[u32]) -> MeanAnswer
     ensures { λ r. ⌜ r ≡ flatAverage (cmaOf (ckmsOf ckms) (entriesOf (now (list .entry))) (now (blocks .entry))) ⌝ }
 {
-    told_mean(ckms.ckms().cma(list, blocks))
+    told_mean(ckms::cma(ckms.ckms(), list, blocks))
 }
 
 // The error as opened, not reduced. Refused: SLOTS, DAMAGED.
@@ -95,5 +95,5 @@ pub extern "C" fn stelo_ckms_error_bound(
 ) -> ErrorAnswer
     ensures { λ r. ⌜ r ≡ flatError (errorOf (ckmsOf ckms) (entriesOf (now (list .entry))) (now (blocks .entry))) ⌝ }
 {
-    told_error(ckms.ckms().error_bound(list, blocks))
+    told_error(ckms::error_bound(ckms.ckms(), list, blocks))
 }

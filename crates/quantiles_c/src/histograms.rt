@@ -1,19 +1,19 @@
 // The histogram's calls.
 use histogram::Bound;
 use histogram::Histogram;
+use histogram_words::BoundWords;
+use histogram_words::HistogramAnswer;
+use histogram_words::HistogramWords;
+use histogram_words::Part;
+use histogram_words::SumAnswer;
+use histogram_words::counted;
+use histogram_words::inserted;
+use histogram_words::opened;
+use histogram_words::summed;
 use words::Number;
-use words::histograms::BoundWords;
-use words::histograms::HistogramAnswer;
-use words::histograms::HistogramWords;
-use words::histograms::Part;
-use words::histograms::SumAnswer;
-use words::histograms::counted;
-use words::histograms::inserted;
-use words::histograms::opened;
-use words::histograms::summed;
 ghost use mathlib.Core.Path.{_≡_};
 ghost use Rattle.histogram.specs.Answers.{countAnswer, sumAnswer, belowAnswer, aboveAnswer, betweenAnswer};
-ghost use Rattle.words.specs.Histograms.{histogramOf, boundOf, flatCounted, flatSummed};
+ghost use Rattle.histogram_words.specs.Histograms.{histogramOf, boundOf, flatCounted, flatSummed};
 ghost use Rattle.quantiles_c.specs.HistogramPosts.{HistogramOpenPost, HistogramInsertPost, BinsPost};
 
 // A fresh histogram. Refused: BOUNDS-EMPTY, BOUNDS-MANY, BOUNDS-ORDER, SLOTS.
@@ -34,7 +34,10 @@ pub extern "C" fn stelo_histogram_insert(
 ) -> HistogramAnswer
     ensures { λ r. ⌜ HistogramInsertPost histogram (now (bounds .entry)) (now (counts .entry)) v r (now (counts .exit)) ⌝ }
 {
-    inserted(histogram.histogram().insert(bounds, counts, v), histogram)
+    inserted(
+        histogram::insert(histogram.histogram(), bounds, counts, v),
+        histogram,
+    )
 }
 
 // How many observations were accepted. Refused: SLOTS, DAMAGED.
@@ -46,7 +49,7 @@ pub extern "C" fn stelo_histogram_count(
 ) -> Number
     ensures { λ r. ⌜ r ≡ flatCounted (countAnswer (histogramOf histogram) (now (bounds .entry)) (now (counts .entry))) ⌝ }
 {
-    counted(histogram.histogram().count(bounds, counts))
+    counted(histogram::count(histogram.histogram(), bounds, counts))
 }
 
 // Their sum. Refused: SLOTS, DAMAGED.
@@ -58,7 +61,7 @@ pub extern "C" fn stelo_histogram_sum(
 ) -> SumAnswer
     ensures { λ r. ⌜ r ≡ flatSummed (sumAnswer (histogramOf histogram) (now (bounds .entry)) (now (counts .entry))) ⌝ }
 {
-    summed(histogram.histogram().sum(bounds, counts))
+    summed(histogram::sum(histogram.histogram(), bounds, counts))
 }
 
 // How many are in bins with bound ≤ upper. Refused: SLOTS, DAMAGED.
@@ -71,11 +74,7 @@ pub extern "C" fn stelo_histogram_total_below(
 ) -> Number
     ensures { λ r. ⌜ r ≡ flatCounted (belowAnswer (histogramOf histogram) (now (bounds .entry)) (now (counts .entry)) (boundOf upper)) ⌝ }
 {
-    counted(
-        histogram
-            .histogram()
-            .total_below(bounds, counts, upper.bound()),
-    )
+    counted(histogram::total_below(histogram.histogram(), bounds, counts, upper.bound()))
 }
 
 // How many are in bins with bound > lower. Refused: SLOTS, DAMAGED.
@@ -88,11 +87,7 @@ pub extern "C" fn stelo_histogram_total_above(
 ) -> Number
     ensures { λ r. ⌜ r ≡ flatCounted (aboveAnswer (histogramOf histogram) (now (bounds .entry)) (now (counts .entry)) (boundOf lower)) ⌝ }
 {
-    counted(
-        histogram
-            .histogram()
-            .total_above(bounds, counts, lower.bound()),
-    )
+    counted(histogram::total_above(histogram.histogram(), bounds, counts, lower.bound()))
 }
 
 // How many are in bins with lower < bound ≤ upper. Refused: SLOTS, DAMAGED.
@@ -106,11 +101,13 @@ pub extern "C" fn stelo_histogram_total_between(
 ) -> Number
     ensures { λ r. ⌜ r ≡ flatCounted (betweenAnswer (histogramOf histogram) (now (bounds .entry)) (now (counts .entry)) (boundOf lower) (boundOf upper)) ⌝ }
 {
-    counted(
-        histogram
-            .histogram()
-            .total_between(bounds, counts, lower.bound(), upper.bound()),
-    )
+    counted(histogram::total_between(
+        histogram.histogram(),
+        bounds,
+        counts,
+        lower.bound(),
+        upper.bound(),
+    ))
 }
 
 // Where the counts of those bins stand among the lent counts. Refused: SLOTS, DAMAGED.
@@ -137,7 +134,7 @@ pub extern "C" fn stelo_histogram_bins(
 fn part(histogram: Histogram, bounds: &[u32], counts: &[u32], lower: Bound, upper: Bound) -> Part
     ensures { λ r. ⌜ BinsPost histogram (now (bounds .entry)) (now (counts .entry)) lower upper r ⌝ }
 {
-    let refusal = histogram.bins_refusal(bounds, counts);
+    let refusal = histogram::bins_refusal(histogram, bounds, counts);
     if refusal != 0 {
         return Part {
             refusal,
@@ -145,8 +142,8 @@ fn part(histogram: Histogram, bounds: &[u32], counts: &[u32], lower: Bound, uppe
             length: 0,
         };
     }
-    let above = histogram.bins(bounds, counts, lower, Bound::PosInf);
-    let between = histogram.bins(bounds, counts, lower, upper);
+    let above = histogram::bins(histogram, bounds, counts, lower, Bound::PosInf);
+    let between = histogram::bins(histogram, bounds, counts, lower, upper);
     Part {
         refusal: 0,
         start: counts.len() - above.len(),

@@ -1,21 +1,21 @@
 // The store's calls.
 use ckms_store::Store;
+use store_words::RankedAnswer;
+use store_words::StoreAnswer;
+use store_words::StoreWords;
+use store_words::compressed;
+use store_words::emptiness;
+use store_words::inserted;
+use store_words::length;
+use store_words::opened;
+use store_words::ranked;
 use words::Number;
 use words::Ratio;
-use words::stores::RankedAnswer;
-use words::stores::StoreAnswer;
-use words::stores::StoreWords;
-use words::stores::compressed;
-use words::stores::emptiness;
-use words::stores::inserted;
-use words::stores::length;
-use words::stores::opened;
-use words::stores::ranked;
 ghost use mathlib.Core.Path.{_≡_};
 ghost use Rattle.entries.specs.Entry.{entriesOf};
 ghost use Rattle.ckms_store.specs.Answers.{lenOf, emptyOf, queried};
 ghost use Rattle.words.specs.Words.{fractionOf};
-ghost use Rattle.words.specs.Stores.{storeOf, flatLen, flatEmpty, flatRanked};
+ghost use Rattle.store_words.specs.Stores.{storeOf, flatLen, flatEmpty, flatRanked};
 ghost use Rattle.quantiles_c.specs.StorePosts.{StoreOpenPost, StoreInsertPost, StoreCompressPost};
 
 // A fresh store. Refused: SLOTS, EPSILON, BLOCK.
@@ -41,7 +41,7 @@ pub extern "C" fn stelo_store_insert(
 ) -> StoreAnswer
     ensures { λ r. ⌜ StoreInsertPost store (entriesOf (now (list .entry))) (now (blocks .entry)) v r (entriesOf (now (list .exit))) (now (blocks .exit)) ⌝ }
 {
-    inserted(store.store().insert(list, blocks, v), store)
+    inserted(ckms_store::insert(store.store(), list, blocks, v), store)
 }
 
 // Entries merged and blocks joined. Refused: SLOTS, DAMAGED.
@@ -53,7 +53,7 @@ pub extern "C" fn stelo_store_compress(
 ) -> StoreAnswer
     ensures { λ r. ⌜ StoreCompressPost store (entriesOf (now (list .entry))) (now (blocks .entry)) r (entriesOf (now (list .exit))) (now (blocks .exit)) ⌝ }
 {
-    compressed(store.store().compress(list, blocks), store)
+    compressed(ckms_store::compress(store.store(), list, blocks), store)
 }
 
 // How many entries are held. Refused: SLOTS, DAMAGED.
@@ -61,7 +61,7 @@ pub extern "C" fn stelo_store_compress(
 pub extern "C" fn stelo_store_len(store: StoreWords, list: &[[u32; 3]], blocks: &[u32]) -> Number
     ensures { λ r. ⌜ r ≡ flatLen (lenOf (storeOf store) (entriesOf (now (list .entry))) (now (blocks .entry))) ⌝ }
 {
-    length(store.store().len(list, blocks))
+    length(ckms_store::len(store.store(), list, blocks))
 }
 
 // 1 if none is held, else 0. Refused: SLOTS, DAMAGED.
@@ -73,7 +73,7 @@ pub extern "C" fn stelo_store_is_empty(
 ) -> Number
     ensures { λ r. ⌜ r ≡ flatEmpty (emptyOf (storeOf store) (entriesOf (now (list .entry))) (now (blocks .entry))) ⌝ }
 {
-    emptiness(store.store().is_empty(list, blocks))
+    emptiness(ckms_store::is_empty(store.store(), list, blocks))
 }
 
 // The rank and the value at q. Refused: SLOTS, DAMAGED, PHI, EMPTY.
@@ -86,5 +86,5 @@ pub extern "C" fn stelo_store_query(
 ) -> RankedAnswer
     ensures { λ r. ⌜ r ≡ flatRanked (queried (storeOf store) (entriesOf (now (list .entry))) (now (blocks .entry)) (fractionOf q)) ⌝ }
 {
-    ranked(store.store().query(list, blocks, q.fraction()))
+    ranked(ckms_store::query(store.store(), list, blocks, q.fraction()))
 }

@@ -1,16 +1,16 @@
 // The stream's calls.
 use greenwald_khanna::Stream;
+use stream_words::StreamAnswer;
+use stream_words::StreamWords;
+use stream_words::inserted;
+use stream_words::opened;
+use stream_words::told;
 use words::Number;
 use words::Ratio;
-use words::streams::StreamAnswer;
-use words::streams::StreamWords;
-use words::streams::inserted;
-use words::streams::opened;
-use words::streams::told;
 ghost use mathlib.Core.Path.{_≡_};
 ghost use Rattle.entries.specs.Entry.{entriesOf};
 ghost use Rattle.greenwald_khanna.specs.Answers.{toldP, toldN, toldS};
-ghost use Rattle.words.specs.Streams.{streamOf, flatAnswer};
+ghost use Rattle.stream_words.specs.Streams.{streamOf, flatAnswer};
 ghost use Rattle.quantiles_c.specs.StreamPosts.{StreamOpenPost, StreamInsertPost, StreamQuantilePost};
 
 // A fresh stream. Refused: SLOTS, EPSILON.
@@ -30,7 +30,7 @@ pub extern "C" fn stelo_stream_insert(
 ) -> StreamAnswer
     ensures { λ r. ⌜ StreamInsertPost stream (entriesOf (now (list .entry))) v r (entriesOf (now (list .exit))) ⌝ }
 {
-    inserted(stream.stream().insert(list, v), stream)
+    inserted(greenwald_khanna::insert(stream.stream(), list, v), stream)
 }
 
 // The φ-quantile. Refused: SLOTS, DAMAGED, PHI, EMPTY.
@@ -42,7 +42,7 @@ pub extern "C" fn stelo_stream_quantile(
 ) -> Number
     ensures { λ r. ⌜ StreamQuantilePost stream (entriesOf (now (list .entry))) phi r ⌝ }
 {
-    told(stream.stream().quantile(list, phi.fraction()))
+    told(greenwald_khanna::quantile(stream.stream(), list, phi.fraction()))
 }
 
 // p = ⌊2εn⌋. Refused: SLOTS, DAMAGED.
@@ -50,7 +50,7 @@ pub extern "C" fn stelo_stream_quantile(
 pub extern "C" fn stelo_stream_p(stream: StreamWords, list: &[[u32; 3]]) -> Number
     ensures { λ r. ⌜ r ≡ flatAnswer (toldP (streamOf stream) (entriesOf (now (list .entry)))) ⌝ }
 {
-    told(stream.stream().p(list))
+    told(greenwald_khanna::p(stream.stream(), list))
 }
 
 // How many observations were accepted. Refused: SLOTS, DAMAGED.
@@ -58,7 +58,7 @@ pub extern "C" fn stelo_stream_p(stream: StreamWords, list: &[[u32; 3]]) -> Numb
 pub extern "C" fn stelo_stream_n(stream: StreamWords, list: &[[u32; 3]]) -> Number
     ensures { λ r. ⌜ r ≡ flatAnswer (toldN (streamOf stream) (entriesOf (now (list .entry)))) ⌝ }
 {
-    told(stream.stream().n(list))
+    told(greenwald_khanna::n(stream.stream(), list))
 }
 
 // How many entries are held. Refused: SLOTS, DAMAGED.
@@ -66,5 +66,5 @@ pub extern "C" fn stelo_stream_n(stream: StreamWords, list: &[[u32; 3]]) -> Numb
 pub extern "C" fn stelo_stream_s(stream: StreamWords, list: &[[u32; 3]]) -> Number
     ensures { λ r. ⌜ r ≡ flatAnswer (toldS (streamOf stream) (entriesOf (now (list .entry)))) ⌝ }
 {
-    told(stream.stream().s(list))
+    told(greenwald_khanna::s(stream.stream(), list))
 }

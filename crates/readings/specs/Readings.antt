@@ -1,6 +1,6 @@
 -- The table: every reading that is to be proved, in one record. Each part stands beside the definitions that it reads.
 -- Assumes nothing: these are definitions.
-use Rattle.greenwald_khanna.specs.Readings.{StreamReadings}
+use Rattle.noise_floor.specs.Readings.{StreamReadings}
 use Rattle.histogram.specs.Readings.{HistogramReadings}
 use Rattle.mean.specs.Readings.{MeanReadings}
 use Rattle.ckms_store.specs.Readings.{StoreReadings}

@@ -6,40 +6,24 @@ use Prim.Native.Nat.{ℕ, suc, _≤_, _<_}
 use native.Mathlib.Omega.{arith}
 use lib.ListN.{length, take, length-take}
 use lib.Seq.{append-snoc}
-use Rattle.refusal.specs.declared.Refusal.{Refusal}
-use Rattle.refusal.specs.declared.Refusal.the-variants as R
-use Rattle.refusal.specs.Number.{numberOf}
+use Rattle.refusal.proofs.Numbers.{numbered}
 use Rattle.fraction.specs.declared.Fraction.{Fraction}
 use Rattle.entries.specs.declared.Entry.{Entry}
 use Rattle.entries.proofs.Maps.{same-words}
-use Rattle.greenwald_khanna.specs.declared.Stream.{Stream}
-use Rattle.greenwald_khanna.specs.declared.Opened.the-variants.{Open}
+use Rattle.greenwald_khanna_steps.specs.declared.Stream.{Stream}
+use Rattle.greenwald_khanna_steps.specs.Limits.{slotsOk}
+use Rattle.greenwald_khanna_steps.specs.declared.Opened.the-variants.{Open}
 use Rattle.greenwald_khanna.specs.declared.Inserted.{Inserted}
 use Rattle.greenwald_khanna.specs.declared.Inserted.the-variants.{Taken, Refused}
-use Rattle.greenwald_khanna.specs.Answers.{opened, openedList, inserted, insertedList}
-use Rattle.greenwald_khanna.specs.Demand3.{given}
-use Rattle.greenwald_khanna.specs.Limits.{slotsOk}
-use Rattle.greenwald_khanna.proofs.Bounds.{Good, good-opened, good-asked}
+use Rattle.greenwald_khanna_steps.specs.Opening.{opened, openedList}
+use Rattle.greenwald_khanna.specs.Answers.{inserted, insertedList}
 use Rattle.greenwald_khanna.proofs.Kept.{inserted-kept}
+use Rattle.noise_floor.specs.Demand3.{given}
+use Rattle.noise_floor.proofs.Bounds.{Good, good-opened, good-asked}
 use Rattle.scan_file.specs.Layout.{Scan}
 use Rattle.scan_text.proofs.Texts.{put-one}
 use Rattle.scan_lines.specs.Inserts.{End, onward, insertAll}
 use Rattle.scan_lines.specs.Promises.{ValuesBounded, AllOrRefused, OneReport, endFrom}
-
--- every refusal has a number above 0
-pub numbered : (why : Refusal) → 1 ≤ numberOf why
-numbered R.Slots = omega arith
-numbered R.Epsilon = omega arith
-numbered R.Block = omega arith
-numbered R.Damaged = omega arith
-numbered R.Count = omega arith
-numbered R.Full = omega arith
-numbered R.Phi = omega arith
-numbered R.Empty = omega arith
-numbered R.BoundsEmpty = omega arith
-numbered R.BoundsMany = omega arith
-numbered R.BoundsOrder = omega arith
-numbered R.File = omega arith
 
 -- k of xs went in behind X, and the stream is good
 pub record Went (ε : Fraction) (X xs : List ℕ) (e : End) : Type 0 where

@@ -6,12 +6,13 @@ use lib.ListN.{replicate}
 use Rattle.fraction.specs.Band.{halvings}
 use Rattle.entries.specs.Entry.{zeroEntry}
 use Rattle.entries.specs.Place.{place}
-use Rattle.greenwald_khanna_theory.specs.Sound.{neverFall, eachWithin, firstExact, lastExact, soundEntries}
+use Rattle.greenwald_khanna_theory.specs.Sound.{eachWithin, firstExact, lastExact, soundEntries}
 use Rattle.greenwald_khanna_theory.specs.State.{grown, tidied, insert, answerAt, quantile}
 use Rattle.greenwald_khanna_theory.specs.Summary.{newDelta, putIn, mergeable, step, merged, compress}
 use Rattle.greenwald_khanna_theory.specs.Walk.{walk, lookUp}
-use Rattle.greenwald_khanna.specs.Answers.{opened, inserted, quantiled}
-use Rattle.greenwald_khanna.specs.Sound.{sound}
+use Rattle.greenwald_khanna_steps.specs.Sound.{sound}
+use Rattle.greenwald_khanna_steps.specs.Opening.{opened}
+use Rattle.greenwald_khanna.specs.Answers.{inserted, quantiled}
 use Rattle.scan_file.specs.Layout.{Scan, Fits, flat, encoded}
 use Rattle.scan_file.specs.Promises.{EncodedIsTaken}
 use Rattle.scan_file.proofs.Files.{encoded-is-taken}
@@ -26,9 +27,9 @@ unfolding EncodedIsTaken
 read s h = ap (λ (o : Option Scan). texts (reportOf o (replicate 4096 zeroEntry) .lines)) (encoded-is-taken s h)
 
 pub reading-2 : Reading2
-unfolding Reading2 flat halvings place neverFall eachWithin firstExact lastExact soundEntries grown tidied insert answerAt quantile newDelta putIn mergeable step merged compress walk lookUp opened inserted quantiled sound digitsOf insertAll reportOf texts
+unfolding Reading2 flat halvings place eachWithin firstExact lastExact soundEntries grown tidied insert answerAt quantile newDelta putIn mergeable step merged compress walk lookUp opened inserted quantiled sound digitsOf insertAll reportOf texts
 reading-2 = read reading2 (record { words = omega arith; fractions-fit = omega arith; observations-fit = omega arith }) ∙ refl
 
 pub blank-scan : BlankScan
-unfolding BlankScan flat opened inserted quantiled sound neverFall eachWithin firstExact lastExact soundEntries answerAt quantile lookUp digitsOf insertAll reportOf texts
+unfolding BlankScan flat opened inserted quantiled sound eachWithin firstExact lastExact soundEntries answerAt quantile lookUp digitsOf insertAll reportOf texts
 blank-scan = read blank (record { words = omega arith; fractions-fit = omega arith; observations-fit = omega arith }) ∙ refl

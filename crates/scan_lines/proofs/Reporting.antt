@@ -7,11 +7,10 @@ use Rattle.refusal.specs.declared.Refusal.{Refusal}
 use Rattle.refusal.specs.declared.Refusal.the-variants.{File}
 use Rattle.refusal.specs.Number.{numberOf}
 use Rattle.entries.specs.declared.Entry.{Entry}
-use Rattle.greenwald_khanna.specs.declared.Stream.{Stream}
-use Rattle.greenwald_khanna.specs.declared.Opened.{Opened}
-use Rattle.greenwald_khanna.specs.declared.Opened.the-variants as opening
-use Rattle.greenwald_khanna.specs.Answers.{openedList}
-use Rattle.greenwald_khanna.specs.Posts.{OpenPost}
+use Rattle.greenwald_khanna_steps.specs.declared.Stream.{Stream}
+use Rattle.greenwald_khanna_steps.specs.declared.Opened.{Opened}
+use Rattle.greenwald_khanna_steps.specs.declared.Opened.the-variants as opening
+use Rattle.greenwald_khanna_steps.specs.Opening.{openedList, OpenPost}
 use Rattle.scan_file.specs.declared.Layout.{Layout}
 use Rattle.scan_file.specs.declared.Parsed.the-variants as parsing
 use Rattle.scan_file.specs.Answers.{answer}

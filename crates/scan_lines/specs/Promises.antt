@@ -8,10 +8,11 @@ use Rattle.fraction.specs.declared.Fraction.{Fraction}
 use Rattle.entries.specs.declared.Entry.{Entry}
 use Rattle.entries.specs.Entry.{entriesOf, zeroEntry}
 use Rattle.entries.specs.Promises.{Threes}
-use Rattle.greenwald_khanna.specs.declared.Stream.{Stream}
-use Rattle.greenwald_khanna.specs.declared.Opened.the-variants.{Open}
-use Rattle.greenwald_khanna.specs.Answers.{opened, openedList, quantiled}
-use Rattle.greenwald_khanna.specs.Demand3.{Bounded}
+use Rattle.greenwald_khanna_steps.specs.declared.Stream.{Stream}
+use Rattle.greenwald_khanna_steps.specs.declared.Opened.the-variants.{Open}
+use Rattle.greenwald_khanna_steps.specs.Opening.{opened, openedList}
+use Rattle.greenwald_khanna.specs.Answers.{quantiled}
+use Rattle.noise_floor.specs.Demand3.{Bounded}
 use Rattle.scan_file.specs.Layout.{Scan, encoded, parsed}
 use Rattle.scan_text.specs.Ascii.{ascii}
 use Rattle.scan_lines.specs.Inserts.{End, insertAll}

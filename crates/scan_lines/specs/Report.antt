@@ -11,12 +11,13 @@ use Rattle.refusal.specs.declared.Refusal.the-variants.{File}
 use Rattle.refusal.specs.Number.{numberOf}
 use Rattle.fraction.specs.declared.Fraction.{Fraction}
 use Rattle.entries.specs.declared.Entry.{Entry}
-use Rattle.greenwald_khanna.specs.declared.Stream.{Stream}
-use Rattle.greenwald_khanna.specs.declared.Opened.{Opened}
-use Rattle.greenwald_khanna.specs.declared.Opened.the-variants as opening
+use Rattle.greenwald_khanna_steps.specs.declared.Stream.{Stream}
+use Rattle.greenwald_khanna_steps.specs.declared.Opened.{Opened}
+use Rattle.greenwald_khanna_steps.specs.declared.Opened.the-variants as opening
 use Rattle.greenwald_khanna.specs.declared.Answer.{Answer}
 use Rattle.greenwald_khanna.specs.declared.Answer.the-variants as answering
-use Rattle.greenwald_khanna.specs.Answers.{opened, openedList, quantiled}
+use Rattle.greenwald_khanna_steps.specs.Opening.{opened, openedList}
+use Rattle.greenwald_khanna.specs.Answers.{quantiled}
 use Rattle.scan_file.specs.Layout.{Scan, parsed}
 use Rattle.scan_text.specs.declared.Line.{Line}
 use Rattle.scan_text.specs.declared.Line.the-variants.{FileRefused, OpenRefused, Taken, Held, InsertRefused, Value, Refused}

@@ -60,7 +60,7 @@ fn insert_all(first: Stream, layout: Layout, bytes: &[u8], rows: &mut [[u32; 3]]
     let mut stream = first;
     let mut i: u32 = 0;
     while i < layout.observations {
-        let inserted = stream.insert(rows, layout.observation(bytes, i));
+        let inserted = greenwald_khanna::insert(stream, rows, layout.observation(bytes, i));
         let Inserted::Taken(next) = inserted else {
             return Ran {
                 stream,
@@ -77,7 +77,7 @@ fn insert_all(first: Stream, layout: Layout, bytes: &[u8], rows: &mut [[u32; 3]]
 fn line_of(stream: Stream, rows: &[[u32; 3]], phi: Fraction) -> Line
     ensures { λ r. ⌜ r ≡ fractionLine stream (entriesOf (now (rows .entry))) phi ⌝ }
 {
-    let answer = stream.quantile(rows, phi);
+    let answer = greenwald_khanna::quantile(stream, rows, phi);
     let Answer::Value(v) = answer else {
         return Line::Refused(phi, why_answered(answer));
     };

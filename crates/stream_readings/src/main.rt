@@ -41,17 +41,14 @@ fn say_floors() {
     let quarter = Fraction { num: 1, den: 4 };
     let half = Fraction { num: 1, den: 2 };
     let one = Fraction { num: 1, den: 1 };
-    say_answer(
-        b"1/2 ",
-        greenwald_khanna::floor(quarter, &mut rows, &six, half),
-    );
+    say_answer(b"1/2 ", noise_floor::floor(quarter, &mut rows, &six, half));
     say_answer(
         b"1/4 ",
-        greenwald_khanna::floor(quarter, &mut rows, &six, quarter),
+        noise_floor::floor(quarter, &mut rows, &six, quarter),
     );
     say_answer(
         b"two slots ",
-        greenwald_khanna::floor(quarter, &mut two, &six, one),
+        noise_floor::floor(quarter, &mut two, &six, one),
     );
 }
 
@@ -135,17 +132,17 @@ fn number_of(answer: Answer) -> u32 {
 // a refused insert has written a word, or where an accepted one leaves a state that is not sound.
 fn tried(s: Stream, rows: [[u32; 3]; 16]) -> u32 {
     let mut lent = rows;
-    let told = number_of(s.n(&lent));
-    if number_of(s.p(&lent)) != told {
+    let told = number_of(greenwald_khanna::n(s, &lent));
+    if number_of(greenwald_khanna::p(s, &lent)) != told {
         return BROKEN;
     }
-    if number_of(s.s(&lent)) != told {
+    if number_of(greenwald_khanna::s(s, &lent)) != told {
         return BROKEN;
     }
-    if number_of(s.quantile(&lent, Fraction { num: 1, den: 2 })) != told {
+    if number_of(greenwald_khanna::quantile(s, &lent, Fraction { num: 1, den: 2 })) != told {
         return BROKEN;
     }
-    let inserted = s.insert(&mut lent, 5);
+    let inserted = greenwald_khanna::insert(s, &mut lent, 5);
     if let Inserted::Refused(why) = inserted {
         if (why.number() == 4) != (told == 4) {
             return BROKEN;
@@ -158,7 +155,7 @@ fn tried(s: Stream, rows: [[u32; 3]; 16]) -> u32 {
     let Inserted::Taken(after) = inserted else {
         return BROKEN;
     };
-    if number_of(after.n(&lent)) != 0 {
+    if number_of(greenwald_khanna::n(after, &lent)) != 0 {
         return BROKEN;
     }
     told
@@ -215,7 +212,7 @@ fn filled(start: Stream, rows: &mut [[u32; 3]; 16], many: u32) -> Stream {
     let mut seed = 2463534242;
     for _ in 0..many {
         seed = next(seed);
-        if let Inserted::Taken(after) = stream.insert(rows, seed / 4194304) {
+        if let Inserted::Taken(after) = greenwald_khanna::insert(stream, rows, seed / 4194304) {
             stream = after;
         }
     }

@@ -1,16 +1,9 @@
-// States as structs of plain words, and answers as structs of numbers: the refusal's number or 0, and what the core answered.
-// Words that anyone may have written are read as a state, and what a core answers is written as numbers; the calls themselves are in quantiles_c.
+// What the words of every module share: a fraction, an answer that is one number or a refusal, and a flag beside what it tells of.
+// The states and answers are in stream_words, histogram_words, store_words, ckms_words and ckms_answer_words; the calls are in quantiles_c.
 use fraction::Fraction;
 use refusal::Refusal;
 ghost use mathlib.Core.Path.{_≡_};
-ghost use Rattle.words.specs.Promises.{Promises};
 ghost use Rattle.words.specs.Words.{fractionOf, refused, flagFits};
-
-pub mod ckms_answers;
-pub mod ckmses;
-pub mod histograms;
-pub mod stores;
-pub mod streams;
 
 // A fraction, for C.
 #[repr(C)]
@@ -39,7 +32,7 @@ impl Ratio {
 }
 
 // What a refused call tells.
-pub(crate) fn refused(why: Refusal) -> Number
+pub fn refused(why: Refusal) -> Number
     ensures { λ r. ⌜ r ≡ refused why ⌝ }
 {
     Number {
@@ -49,7 +42,7 @@ pub(crate) fn refused(why: Refusal) -> Number
 }
 
 // Whether a flag fits what stands beside it: 1, or 0 with nothing there.
-pub(crate) fn flag_fits(flag: u64, nothing: bool) -> bool
+pub fn flag_fits(flag: u64, nothing: bool) -> bool
     ensures { λ r. ⌜ r ≡ flagFits flag nothing ⌝ }
 {
     if flag == 1 {
@@ -60,8 +53,3 @@ pub(crate) fn flag_fits(flag: u64, nothing: bool) -> bool
     }
     false
 }
-
-// The theorems about the definitions: the crate is not proved unless each of them is.
-pub fn promises()
-    ensures { λ _. ⌜ Promises ⌝ }
-{}

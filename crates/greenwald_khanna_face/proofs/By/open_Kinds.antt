@@ -2,8 +2,8 @@
 use Rattle.entries_face.proofs.Of
 use Rattle.fraction.proofs.Fraction
 use Rattle.fraction.proofs.Fraction.Laws
-use Rattle.greenwald_khanna.proofs.Opened
-use Rattle.greenwald_khanna.proofs.Opened.Laws as Laws'
+use Rattle.greenwald_khanna_steps.proofs.Opened
+use Rattle.greenwald_khanna_steps.proofs.Opened.Laws as Laws'
 use borrow.Fn.Kinds
 use borrow.Kind.MutSlice
 use borrow.Kind.Value

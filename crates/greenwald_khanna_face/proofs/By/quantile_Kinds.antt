@@ -4,8 +4,8 @@ use Rattle.fraction.proofs.Fraction
 use Rattle.fraction.proofs.Fraction.Laws
 use Rattle.greenwald_khanna.proofs.Answer
 use Rattle.greenwald_khanna.proofs.Answer.Laws as Laws'
-use Rattle.greenwald_khanna.proofs.Stream
-use Rattle.greenwald_khanna.proofs.Stream.Laws as Laws''
+use Rattle.greenwald_khanna_steps.proofs.Stream
+use Rattle.greenwald_khanna_steps.proofs.Stream.Laws as Laws''
 use borrow.Fn.Kinds
 use borrow.Kind.ShrSlice
 use borrow.Kind.Value

@@ -7,7 +7,7 @@ use borrow.Author.Needs.{needs}
 use lib.ListN.{length}
 use Rattle.refusal.specs.declared.Refusal.the-variants.{Slots, Epsilon}
 use Rattle.greenwald_khanna.proofs.Exactly.{open-exactly}
-use Rattle.greenwald_khanna.proofs.Returns.{open-refused, open-accepted}
+use Rattle.greenwald_khanna_steps.proofs.Openings.{open-refused, open-accepted}
 use Rattle.greenwald_khanna_face.proofs.Posts.{few, many, enough}
 use Rattle.greenwald_khanna_face.proofs.open.Statement.{statement}
 use Rattle.greenwald_khanna_face.proofs.open.Proof.Tie as tie

@@ -5,8 +5,8 @@ use Rattle.histogram_rows.specs.Laws.{BinsAreAPart}
 use Rattle.histogram_rows.proofs.Binning.{bin-is-first}
 use Rattle.histogram_rows.proofs.Splitting.{below-and-above, between-is-difference}
 use Rattle.histogram_rows.proofs.Choosing.{between-part}
+use Rattle.histogram_steps.proofs.Sounds.{sound-means, sound-holds}
 use Rattle.histogram.specs.Laws.{SoundAgrees, BelowAndAbove, PartAddsUp, OpensOneWay, InsertsOneWay}
-use Rattle.histogram.proofs.Sounds.{sound-means, sound-holds}
 use Rattle.histogram.proofs.Filling.{filled-tells}
 use Rattle.histogram.proofs.Examples.{readings}
 use Rattle.histogram.proofs.promises.Statement.{statement}

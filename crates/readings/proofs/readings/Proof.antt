@@ -5,7 +5,7 @@ use Rattle.entries.specs.Place.{place}
 use Rattle.fraction.specs.Band.{halvings}
 use Rattle.ckms.proofs.Abacus as ckms
 use Rattle.ckms_store.proofs.Abacus as store
-use Rattle.greenwald_khanna.proofs.Abacus as stream
+use Rattle.noise_floor.proofs.Abacus as stream
 use Rattle.histogram.proofs.Examples as histogram
 use Rattle.mean.proofs.Examples as mean
 use Rattle.scan_lines.proofs.Examples as scan

@@ -6,7 +6,7 @@ use native.Mathlib.Omega.{arith}
 use borrow.Author.Needs.{needs}
 use lib.ListN.{length, drop}
 use Rattle.entries.specs.Entry.{entriesOf}
-use Rattle.ckms_rows.specs.Lists.{entriesSound}
+use Rattle.ckms_theory.specs.Lists.{entriesSound}
 use Rattle.ckms_rows.proofs.Sounds.{entries-done, entries-fall, entries-none, entries-large, entries-go}
 use Rattle.ckms_rows.proofs.lists.entries_sound.Statement.{statement}
 use Rattle.ckms_rows.proofs.lists.entries_sound.Tie as tie

@@ -3,10 +3,10 @@ use Rattle.entries_face.proofs.Of
 use Prim.Native.Nat
 use Rattle.greenwald_khanna.proofs.Answer
 use Rattle.greenwald_khanna.proofs.Answer.Laws
-use Rattle.greenwald_khanna.proofs.Stream
-use Rattle.greenwald_khanna.proofs.Stream.Laws as Laws'
 use Rattle.greenwald_khanna_face.proofs.parts.Question
-use Rattle.greenwald_khanna_face.proofs.parts.Question.Laws as Laws''
+use Rattle.greenwald_khanna_face.proofs.parts.Question.Laws as Laws'
+use Rattle.greenwald_khanna_steps.proofs.Stream
+use Rattle.greenwald_khanna_steps.proofs.Stream.Laws as Laws''
 use Rattle.refusal.proofs.Refusal
 use Rattle.refusal.proofs.Refusal.Laws as Laws'3
 use borrow.Author.Called
@@ -73,36 +73,37 @@ abbrev pub ps : List.List (Kinds.PK 1)
 ps = List._∷_ (Value.pVal record {
   ty = Declared'.row Stream.the-type;
   one = Path'.refl;
-  val = Laws'5.val Stream.the-type Laws'.the-laws;
+  val = Laws'5.val Stream.the-type Laws''.the-laws;
   tells = Laws'5.tells Stream.the-type
-      Laws'.the-laws;
-  still = Laws'5.still Stream.the-type Laws'.the-copy Exit.yes;
+      Laws''.the-laws;
+  still = Laws'5.still Stream.the-type Laws''.the-copy Exit.yes;
   row = Rows'.whole (Declared'.row Stream.the-type);
   rd = λ x. x;
   mk = λ x. x;
-} λ M 𝓤 H A W. record {
-  copies = Laws'5.copy Stream.the-type Laws'.the-copy 𝓤 H A W;
-  lawful = Laws'5.lawful Stream.the-type Laws'.the-laws 𝓤 H A W;
-  makes = Laws'5.makes Stream.the-type
-      Laws'.the-plain 𝓤 H A;
-  in-mem = Local.mem-whole 𝓤 H A W (Declared'.row Stream.the-type);
-  of-mem = Local.whole-mem 𝓤 H A W (Declared'.row Stream.the-type);
-}) (List._∷_
+} λ M 𝓤 H A W.
+    record {
+      copies = Laws'5.copy Stream.the-type Laws''.the-copy 𝓤 H A W;
+      lawful = Laws'5.lawful Stream.the-type Laws''.the-laws 𝓤 H A W;
+      makes = Laws'5.makes Stream.the-type
+          Laws''.the-plain 𝓤 H A;
+      in-mem = Local.mem-whole 𝓤 H A W (Declared'.row Stream.the-type);
+      of-mem = Local.whole-mem 𝓤 H A W (Declared'.row Stream.the-type);
+    }) (List._∷_
     (ShrSlice.pShrS Of.R 0 tt) (List._∷_ (Value.pVal record {
       ty = Declared.row Question.the-type;
       one = Path'.refl;
-      val = Laws'4.val Question.the-type Laws''.the-laws;
+      val = Laws'4.val Question.the-type Laws'.the-laws;
       tells =
-          Laws'4.tells Question.the-type Laws''.the-laws;
-      still = Laws'4.still Question.the-type Laws''.the-copy Exit.yes;
+          Laws'4.tells Question.the-type Laws'.the-laws;
+      still = Laws'4.still Question.the-type Laws'.the-copy Exit.yes;
       row = Rows'.whole (Declared.row Question.the-type);
-      rd = λ x.
-          x;
+      rd = λ x. x;
       mk = λ x. x;
     } λ M 𝓤 H A W. record {
-      copies = Laws'4.copy Question.the-type Laws''.the-copy 𝓤 H A W;
-      lawful = Laws'4.lawful Question.the-type Laws''.the-laws 𝓤 H A W tt;
-      makes = Laws'4.makes Question.the-type Laws''.the-plain 𝓤 H A;
+      copies = Laws'4.copy Question.the-type Laws'.the-copy 𝓤 H A W;
+      lawful = Laws'4.lawful Question.the-type Laws'.the-laws 𝓤 H A W tt;
+      makes =
+          Laws'4.makes Question.the-type Laws'.the-plain 𝓤 H A;
       in-mem = Local.mem-whole 𝓤 H A W (Declared.row Question.the-type);
       of-mem = Local.whole-mem 𝓤 H A W (Declared.row
           Question.the-type);
@@ -146,21 +147,22 @@ abbrev pub ps·0 : List.List (Kinds.PK 0)
 ps·0 = List._∷_ (Value.pVal record {
   ty = Declared'.row Stream.the-type;
   one = Path'.refl;
-  val = Laws'5.val Stream.the-type Laws'.the-laws;
+  val = Laws'5.val Stream.the-type Laws''.the-laws;
   tells = Laws'5.tells Stream.the-type
-      Laws'.the-laws;
-  still = Laws'5.still Stream.the-type Laws'.the-copy Exit.yes;
+      Laws''.the-laws;
+  still = Laws'5.still Stream.the-type Laws''.the-copy Exit.yes;
   row = Rows'.whole (Declared'.row Stream.the-type);
   rd = λ x. x;
   mk = λ x. x;
-} λ M 𝓤 H A W. record {
-  copies = Laws'5.copy Stream.the-type Laws'.the-copy 𝓤 H A W;
-  lawful = Laws'5.lawful Stream.the-type Laws'.the-laws 𝓤 H A W;
-  makes = Laws'5.makes Stream.the-type
-      Laws'.the-plain 𝓤 H A;
-  in-mem = Local.mem-whole 𝓤 H A W (Declared'.row Stream.the-type);
-  of-mem = Local.whole-mem 𝓤 H A W (Declared'.row Stream.the-type);
-}) (List._∷_
+} λ M 𝓤 H A W.
+    record {
+      copies = Laws'5.copy Stream.the-type Laws''.the-copy 𝓤 H A W;
+      lawful = Laws'5.lawful Stream.the-type Laws''.the-laws 𝓤 H A W;
+      makes = Laws'5.makes Stream.the-type
+          Laws''.the-plain 𝓤 H A;
+      in-mem = Local.mem-whole 𝓤 H A W (Declared'.row Stream.the-type);
+      of-mem = Local.whole-mem 𝓤 H A W (Declared'.row Stream.the-type);
+    }) (List._∷_
     (Num.pNum Syntax.w64) List.[])
 
 abbrev pub r·0 : Kinds.RK 0
@@ -170,37 +172,39 @@ abbrev pub ps·1 : List.List (Kinds.PK 2)
 ps·1 = List._∷_ (Value.pVal record {
   ty = Declared'.row Stream.the-type;
   one = Path'.refl;
-  val = Laws'5.val Stream.the-type Laws'.the-laws;
+  val = Laws'5.val Stream.the-type Laws''.the-laws;
   tells = Laws'5.tells Stream.the-type
-      Laws'.the-laws;
-  still = Laws'5.still Stream.the-type Laws'.the-copy Exit.yes;
+      Laws''.the-laws;
+  still = Laws'5.still Stream.the-type Laws''.the-copy Exit.yes;
   row = Rows'.whole (Declared'.row Stream.the-type);
   rd = λ x. x;
   mk = λ x. x;
-} λ M 𝓤 H A W. record {
-  copies = Laws'5.copy Stream.the-type Laws'.the-copy 𝓤 H A W;
-  lawful = Laws'5.lawful Stream.the-type Laws'.the-laws 𝓤 H A W;
-  makes = Laws'5.makes Stream.the-type
-      Laws'.the-plain 𝓤 H A;
-  in-mem = Local.mem-whole 𝓤 H A W (Declared'.row Stream.the-type);
-  of-mem = Local.whole-mem 𝓤 H A W (Declared'.row Stream.the-type);
-}) (List._∷_
+} λ M 𝓤 H A W.
+    record {
+      copies = Laws'5.copy Stream.the-type Laws''.the-copy 𝓤 H A W;
+      lawful = Laws'5.lawful Stream.the-type Laws''.the-laws 𝓤 H A W;
+      makes = Laws'5.makes Stream.the-type
+          Laws''.the-plain 𝓤 H A;
+      in-mem = Local.mem-whole 𝓤 H A W (Declared'.row Stream.the-type);
+      of-mem = Local.whole-mem 𝓤 H A W (Declared'.row Stream.the-type);
+    }) (List._∷_
     (ShrSlice.pShrS Of.R 0 tt) (List._∷_ (Num.pNum Syntax.w64) (List._∷_ (MutSlice.pMutS (Array'.Array (Referent.rtF (Referent.fInt Syntax.w32)) 3) 1 tt) (List._∷_ (Value.pVal
     record {
       ty = Declared.row Question.the-type;
       one = Path'.refl;
-      val = Laws'4.val Question.the-type Laws''.the-laws;
-      tells = Laws'4.tells Question.the-type Laws''.the-laws;
-      still = Laws'4.still Question.the-type Laws''.the-copy Exit.yes;
+      val = Laws'4.val Question.the-type Laws'.the-laws;
+      tells = Laws'4.tells Question.the-type Laws'.the-laws;
+      still
+          = Laws'4.still Question.the-type Laws'.the-copy Exit.yes;
       row = Rows'.whole (Declared.row Question.the-type);
       rd = λ x. x;
       mk = λ x. x;
     } λ M 𝓤 H A W. record {
       copies =
-          Laws'4.copy Question.the-type Laws''.the-copy 𝓤 H A W;
-      lawful = Laws'4.lawful Question.the-type Laws''.the-laws 𝓤 H A W tt;
-      makes = Laws'4.makes Question.the-type
-          Laws''.the-plain 𝓤 H A;
+          Laws'4.copy Question.the-type Laws'.the-copy 𝓤 H A W;
+      lawful = Laws'4.lawful Question.the-type Laws'.the-laws 𝓤 H A W tt;
+      makes = Laws'4.makes Question.the-type Laws'.the-plain
+          𝓤 H A;
       in-mem = Local.mem-whole 𝓤 H A W (Declared.row Question.the-type);
       of-mem = Local.whole-mem 𝓤 H A W (Declared.row Question.the-type);
     }) List.[]))))
@@ -411,53 +415,53 @@ abbrev pub t1 : List.List Row.Entry
 t1 = List._∷_ (0, Rows'.whole (Declared.row Answer.the-type)) (List._∷_ (
   1,
   Rows'.any-gone (Syntax.tyStruct (List._∷_ 103 (List._∷_ 114 (List._∷_ 101 (List._∷_ 101 (List._∷_ 110
-      (List._∷_ 119 (List._∷_ 97 (List._∷_ 108 (List._∷_ 100 (List._∷_ 95 (List._∷_ 107 (List._∷_ 104 (List._∷_ 97 (List._∷_ 110 (List._∷_ 110 (List._∷_ 97 (List._∷_ 58 (List._∷_ 58
-      (List._∷_ 83 (List._∷_ 116 (List._∷_ 114 (List._∷_ 101 (List._∷_ 97 (List._∷_ 109 List.[])))))))))))))))))))))))) (Syntax.tcons (Syntax.tyStruct (List._∷_ 102 (List._∷_ 114
-      (List._∷_ 97 (List._∷_ 99 (List._∷_ 116 (List._∷_ 105 (List._∷_ 111 (List._∷_ 110 (List._∷_ 58 (List._∷_ 58 (List._∷_ 70 (List._∷_ 114 (List._∷_ 97 (List._∷_ 99 (List._∷_ 116
-      (List._∷_ 105 (List._∷_ 111 (List._∷_ 110 List.[])))))))))))))))))) (Syntax.tcons (Syntax.tyInt Syntax.w32) (Syntax.tcons (Syntax.tyInt Syntax.w32) Syntax.tnil))) (Syntax.tcons
-      (Syntax.tyInt Syntax.w32) (Syntax.tcons (Syntax.tyInt Syntax.w32) Syntax.tnil)))),
-) (List._∷_ (2, Rows'.sslice Of.R (Syntax.tyRef (Syntax.named 0) Syntax.imm Of.tyBy) 0)
-    (List._∷_ (
-      3,
-      Rows'.any-gone (Syntax.tyEnum (List._∷_ 103 (List._∷_ 114 (List._∷_ 101 (List._∷_ 101 (List._∷_ 110 (List._∷_ 119 (List._∷_ 97 (List._∷_ 108 (List._∷_ 100
-          (List._∷_ 95 (List._∷_ 107 (List._∷_ 104 (List._∷_ 97 (List._∷_ 110 (List._∷_ 110 (List._∷_ 97 (List._∷_ 95 (List._∷_ 102 (List._∷_ 97 (List._∷_ 99 (List._∷_ 101 (List._∷_ 58
-          (List._∷_ 58 (List._∷_ 112 (List._∷_ 97 (List._∷_ 114 (List._∷_ 116 (List._∷_ 115 (List._∷_ 58 (List._∷_ 58 (List._∷_ 81 (List._∷_ 117 (List._∷_ 101 (List._∷_ 115 (List._∷_ 116
-          (List._∷_ 105 (List._∷_ 111 (List._∷_ 110 List.[])))))))))))))))))))))))))))))))))))))) (Syntax.ttcons (Syntax.tcons (Syntax.tyStruct (List._∷_ 102 (List._∷_ 114 (List._∷_ 97
-          (List._∷_ 99 (List._∷_ 116 (List._∷_ 105 (List._∷_ 111 (List._∷_ 110 (List._∷_ 58 (List._∷_ 58 (List._∷_ 70 (List._∷_ 114 (List._∷_ 97 (List._∷_ 99 (List._∷_ 116 (List._∷_ 105
-          (List._∷_ 111 (List._∷_ 110 List.[])))))))))))))))))) (Syntax.tcons (Syntax.tyInt Syntax.w32) (Syntax.tcons (Syntax.tyInt Syntax.w32) Syntax.tnil))) Syntax.tnil) (Syntax.ttcons
-          Syntax.tnil (Syntax.ttcons Syntax.tnil (Syntax.ttcons Syntax.tnil Syntax.ttnil))))),
-    ) (List._∷_ (4, Rows'.any-gone (Syntax.tyInt Syntax.w64)) (List._∷_ (
-      5,
-      Rows'.any-gone
-          (Syntax.tyInt Syntax.w64),
-    ) (List._∷_ (6, Rows'.any-gone (Syntax.tyArray (Syntax.tyArray (Syntax.tyInt Syntax.w32) 3) 256)) (List._∷_ (
+      (List._∷_ 119 (List._∷_ 97 (List._∷_ 108 (List._∷_ 100 (List._∷_ 95 (List._∷_ 107 (List._∷_ 104 (List._∷_ 97 (List._∷_ 110 (List._∷_ 110 (List._∷_ 97 (List._∷_ 95 (List._∷_ 115
+      (List._∷_ 116 (List._∷_ 101 (List._∷_ 112 (List._∷_ 115 (List._∷_ 58 (List._∷_ 58 (List._∷_ 83 (List._∷_ 116 (List._∷_ 114 (List._∷_ 101 (List._∷_ 97 (List._∷_ 109
+      List.[])))))))))))))))))))))))))))))) (Syntax.tcons (Syntax.tyStruct (List._∷_ 102 (List._∷_ 114 (List._∷_ 97 (List._∷_ 99 (List._∷_ 116 (List._∷_ 105 (List._∷_ 111 (List._∷_
+      110 (List._∷_ 58 (List._∷_ 58 (List._∷_ 70 (List._∷_ 114 (List._∷_ 97 (List._∷_ 99 (List._∷_ 116 (List._∷_ 105 (List._∷_ 111 (List._∷_ 110 List.[]))))))))))))))))))
+      (Syntax.tcons (Syntax.tyInt Syntax.w32) (Syntax.tcons (Syntax.tyInt Syntax.w32) Syntax.tnil))) (Syntax.tcons (Syntax.tyInt Syntax.w32) (Syntax.tcons (Syntax.tyInt Syntax.w32)
+      Syntax.tnil)))),
+) (List._∷_ (2, Rows'.sslice Of.R (Syntax.tyRef (Syntax.named 0) Syntax.imm Of.tyBy) 0) (List._∷_ (
+  3,
+  Rows'.any-gone (Syntax.tyEnum (List._∷_ 103 (List._∷_
+      114 (List._∷_ 101 (List._∷_ 101 (List._∷_ 110 (List._∷_ 119 (List._∷_ 97 (List._∷_ 108 (List._∷_ 100 (List._∷_ 95 (List._∷_ 107 (List._∷_ 104 (List._∷_ 97 (List._∷_ 110
+      (List._∷_ 110 (List._∷_ 97 (List._∷_ 95 (List._∷_ 102 (List._∷_ 97 (List._∷_ 99 (List._∷_ 101 (List._∷_ 58 (List._∷_ 58 (List._∷_ 112 (List._∷_ 97 (List._∷_ 114 (List._∷_ 116
+      (List._∷_ 115 (List._∷_ 58 (List._∷_ 58 (List._∷_ 81 (List._∷_ 117 (List._∷_ 101 (List._∷_ 115 (List._∷_ 116 (List._∷_ 105 (List._∷_ 111 (List._∷_ 110
+      List.[])))))))))))))))))))))))))))))))))))))) (Syntax.ttcons (Syntax.tcons (Syntax.tyStruct (List._∷_ 102 (List._∷_ 114 (List._∷_ 97 (List._∷_ 99 (List._∷_ 116 (List._∷_ 105
+      (List._∷_ 111 (List._∷_ 110 (List._∷_ 58 (List._∷_ 58 (List._∷_ 70 (List._∷_ 114 (List._∷_ 97 (List._∷_ 99 (List._∷_ 116 (List._∷_ 105 (List._∷_ 111 (List._∷_ 110
+      List.[])))))))))))))))))) (Syntax.tcons (Syntax.tyInt Syntax.w32) (Syntax.tcons (Syntax.tyInt Syntax.w32) Syntax.tnil))) Syntax.tnil) (Syntax.ttcons Syntax.tnil (Syntax.ttcons
+      Syntax.tnil (Syntax.ttcons Syntax.tnil Syntax.ttnil))))),
+) (List._∷_ (4, Rows'.any-gone (Syntax.tyInt Syntax.w64)) (List._∷_ (5, Rows'.any-gone (Syntax.tyInt Syntax.w64))
+    (List._∷_ (6, Rows'.any-gone (Syntax.tyArray (Syntax.tyArray (Syntax.tyInt Syntax.w32) 3) 256)) (List._∷_ (
       7,
-      Rows'.any-gone (Syntax.tyArray
-          (Syntax.tyArray (Syntax.tyInt Syntax.w32) 3) 4096),
+      Rows'.any-gone (Syntax.tyArray (Syntax.tyArray (Syntax.tyInt
+          Syntax.w32) 3) 4096),
     ) (List._∷_ (8, Rows'.any-gone Syntax.tyBool) (List._∷_ (
       9,
-      Rows'.any-gone (Syntax.tyEnum (List._∷_ 114 (List._∷_ 101
-          (List._∷_ 102 (List._∷_ 117 (List._∷_ 115 (List._∷_ 97 (List._∷_ 108 (List._∷_ 58 (List._∷_ 58 (List._∷_ 82 (List._∷_ 101 (List._∷_ 102 (List._∷_ 117 (List._∷_ 115 (List._∷_ 97
-          (List._∷_ 108 List.[])))))))))))))))) (Syntax.ttcons Syntax.tnil (Syntax.ttcons Syntax.tnil (Syntax.ttcons Syntax.tnil (Syntax.ttcons Syntax.tnil (Syntax.ttcons Syntax.tnil
-          (Syntax.ttcons Syntax.tnil (Syntax.ttcons Syntax.tnil (Syntax.ttcons Syntax.tnil (Syntax.ttcons Syntax.tnil (Syntax.ttcons Syntax.tnil (Syntax.ttcons Syntax.tnil (Syntax.ttcons
-          Syntax.tnil Syntax.ttnil))))))))))))),
+      Rows'.any-gone (Syntax.tyEnum (List._∷_ 114 (List._∷_ 101 (List._∷_ 102 (List._∷_ 117
+          (List._∷_ 115 (List._∷_ 97 (List._∷_ 108 (List._∷_ 58 (List._∷_ 58 (List._∷_ 82 (List._∷_ 101 (List._∷_ 102 (List._∷_ 117 (List._∷_ 115 (List._∷_ 97 (List._∷_ 108
+          List.[])))))))))))))))) (Syntax.ttcons Syntax.tnil (Syntax.ttcons Syntax.tnil (Syntax.ttcons Syntax.tnil (Syntax.ttcons Syntax.tnil (Syntax.ttcons Syntax.tnil (Syntax.ttcons
+          Syntax.tnil (Syntax.ttcons Syntax.tnil (Syntax.ttcons Syntax.tnil (Syntax.ttcons Syntax.tnil (Syntax.ttcons Syntax.tnil (Syntax.ttcons Syntax.tnil (Syntax.ttcons Syntax.tnil
+          Syntax.ttnil))))))))))))),
     ) (List._∷_ (10, Rows'.any-gone (Syntax.tyArray (Syntax.tyInt Syntax.w32) 3)) (List._∷_ (
       11,
-      Rows'.any-gone (Syntax.tyRef Syntax.erased
-          Syntax.mut (Syntax.tyArray (Syntax.tyArray (Syntax.tyInt Syntax.w32) 3) 256)),
+      Rows'.any-gone (Syntax.tyRef Syntax.erased Syntax.mut
+          (Syntax.tyArray (Syntax.tyArray (Syntax.tyInt Syntax.w32) 3) 256)),
     ) (List._∷_ (
       12,
-      Rows'.any-gone (Syntax.tyStruct (List._∷_ 38 (List._∷_ 91 (List._∷_ 93
-          List.[]))) (Syntax.tcons (Syntax.tyRef Syntax.erased Syntax.mut (Syntax.tyArray (Syntax.tyInt Syntax.w32) 3)) (Syntax.tcons (Syntax.tyInt Syntax.w64) Syntax.tnil))),
-    )
-    (List._∷_ (13, Rows'.any-gone (Syntax.tyArray (Syntax.tyInt Syntax.w32) 3)) (List._∷_ (
+      Rows'.any-gone (Syntax.tyStruct (List._∷_ 38 (List._∷_ 91 (List._∷_ 93 List.[])))
+          (Syntax.tcons (Syntax.tyRef Syntax.erased Syntax.mut (Syntax.tyArray (Syntax.tyInt Syntax.w32) 3)) (Syntax.tcons (Syntax.tyInt Syntax.w64) Syntax.tnil))),
+    ) (List._∷_ (
+      13,
+      Rows'.any-gone (Syntax.tyArray (Syntax.tyInt Syntax.w32) 3),
+    ) (List._∷_ (
       14,
-      Rows'.any-gone (Syntax.tyRef Syntax.erased Syntax.mut (Syntax.tyArray
-          (Syntax.tyArray (Syntax.tyInt Syntax.w32) 3) 4096)),
+      Rows'.any-gone (Syntax.tyRef Syntax.erased Syntax.mut (Syntax.tyArray (Syntax.tyArray (Syntax.tyInt
+          Syntax.w32) 3) 4096)),
     ) (List._∷_ (
       15,
-      Rows'.any-gone (Syntax.tyStruct (List._∷_ 38 (List._∷_ 91 (List._∷_ 93 List.[]))) (Syntax.tcons
-          (Syntax.tyRef Syntax.erased Syntax.mut (Syntax.tyArray (Syntax.tyInt Syntax.w32) 3)) (Syntax.tcons (Syntax.tyInt Syntax.w64) Syntax.tnil))),
+      Rows'.any-gone (Syntax.tyStruct (List._∷_ 38 (List._∷_ 91 (List._∷_ 93 List.[]))) (Syntax.tcons (Syntax.tyRef Syntax.erased Syntax.mut
+          (Syntax.tyArray (Syntax.tyInt Syntax.w32) 3)) (Syntax.tcons (Syntax.tyInt Syntax.w64) Syntax.tnil))),
     ) List.[])))))))))))))))
 
 abbrev pub t2 : List.List Row.Entry
@@ -558,44 +562,49 @@ t4 = List._∷_ (
   1,
   Rows'.any-gone (Syntax.tyStruct (List._∷_ 103 (List._∷_ 114
       (List._∷_ 101 (List._∷_ 101 (List._∷_ 110 (List._∷_ 119 (List._∷_ 97 (List._∷_ 108 (List._∷_ 100 (List._∷_ 95 (List._∷_ 107 (List._∷_ 104 (List._∷_ 97 (List._∷_ 110 (List._∷_
-      110 (List._∷_ 97 (List._∷_ 58 (List._∷_ 58 (List._∷_ 83 (List._∷_ 116 (List._∷_ 114 (List._∷_ 101 (List._∷_ 97 (List._∷_ 109 List.[])))))))))))))))))))))))) (Syntax.tcons
-      (Syntax.tyStruct (List._∷_ 102 (List._∷_ 114 (List._∷_ 97 (List._∷_ 99 (List._∷_ 116 (List._∷_ 105 (List._∷_ 111 (List._∷_ 110 (List._∷_ 58 (List._∷_ 58 (List._∷_ 70 (List._∷_
-      114 (List._∷_ 97 (List._∷_ 99 (List._∷_ 116 (List._∷_ 105 (List._∷_ 111 (List._∷_ 110 List.[])))))))))))))))))) (Syntax.tcons (Syntax.tyInt Syntax.w32) (Syntax.tcons
-      (Syntax.tyInt Syntax.w32) Syntax.tnil))) (Syntax.tcons (Syntax.tyInt Syntax.w32) (Syntax.tcons (Syntax.tyInt Syntax.w32) Syntax.tnil)))),
+      110 (List._∷_ 97 (List._∷_ 95 (List._∷_ 115 (List._∷_ 116 (List._∷_ 101 (List._∷_ 112 (List._∷_ 115 (List._∷_ 58 (List._∷_ 58 (List._∷_ 83 (List._∷_ 116 (List._∷_ 114 (List._∷_
+      101 (List._∷_ 97 (List._∷_ 109 List.[])))))))))))))))))))))))))))))) (Syntax.tcons (Syntax.tyStruct (List._∷_ 102 (List._∷_ 114 (List._∷_ 97 (List._∷_ 99 (List._∷_ 116
+      (List._∷_ 105 (List._∷_ 111 (List._∷_ 110 (List._∷_ 58 (List._∷_ 58 (List._∷_ 70 (List._∷_ 114 (List._∷_ 97 (List._∷_ 99 (List._∷_ 116 (List._∷_ 105 (List._∷_ 111 (List._∷_ 110
+      List.[])))))))))))))))))) (Syntax.tcons (Syntax.tyInt Syntax.w32) (Syntax.tcons (Syntax.tyInt Syntax.w32) Syntax.tnil))) (Syntax.tcons (Syntax.tyInt Syntax.w32) (Syntax.tcons
+      (Syntax.tyInt Syntax.w32) Syntax.tnil)))),
+) (List._∷_ (2, Rows'.sslice Of.R (Syntax.tyRef (Syntax.named 0) Syntax.imm Of.tyBy) 0) (List._∷_ (
+  3,
+  Rows'.whole (Declared.row
+      Question.the-type),
+) (List._∷_ (4, Rows'.sc-here (Row.sInt Syntax.w64)) (List._∷_ (5, Rows'.any-gone (Syntax.tyInt Syntax.w64)) (List._∷_ (
+  6,
+  Rows'.any-gone (Syntax.tyArray
+      (Syntax.tyArray (Syntax.tyInt Syntax.w32) 3) 256),
+) (List._∷_ (7, Rows'.any-gone (Syntax.tyArray (Syntax.tyArray (Syntax.tyInt Syntax.w32) 3) 4096)) (List._∷_ (
+  8,
+  Rows'.sc-here Row.sBool,
 ) (List._∷_ (
-  2,
-  Rows'.sslice Of.R
-      (Syntax.tyRef (Syntax.named 0) Syntax.imm Of.tyBy) 0,
-) (List._∷_ (3, Rows'.whole (Declared.row Question.the-type)) (List._∷_ (4, Rows'.sc-here (Row.sInt Syntax.w64))
-    (List._∷_ (5, Rows'.any-gone (Syntax.tyInt Syntax.w64)) (List._∷_ (6, Rows'.any-gone (Syntax.tyArray (Syntax.tyArray (Syntax.tyInt Syntax.w32) 3) 256)) (List._∷_ (
-      7,
-      Rows'.any-gone (Syntax.tyArray (Syntax.tyArray (Syntax.tyInt Syntax.w32) 3) 4096),
-    ) (List._∷_ (8, Rows'.sc-here Row.sBool) (List._∷_ (
-      9,
-      Rows'.any-gone (Syntax.tyEnum
-          (List._∷_ 114 (List._∷_ 101 (List._∷_ 102 (List._∷_ 117 (List._∷_ 115 (List._∷_ 97 (List._∷_ 108 (List._∷_ 58 (List._∷_ 58 (List._∷_ 82 (List._∷_ 101 (List._∷_ 102 (List._∷_
-          117 (List._∷_ 115 (List._∷_ 97 (List._∷_ 108 List.[])))))))))))))))) (Syntax.ttcons Syntax.tnil (Syntax.ttcons Syntax.tnil (Syntax.ttcons Syntax.tnil (Syntax.ttcons Syntax.tnil
-          (Syntax.ttcons Syntax.tnil (Syntax.ttcons Syntax.tnil (Syntax.ttcons Syntax.tnil (Syntax.ttcons Syntax.tnil (Syntax.ttcons Syntax.tnil (Syntax.ttcons Syntax.tnil (Syntax.ttcons
-          Syntax.tnil (Syntax.ttcons Syntax.tnil Syntax.ttnil))))))))))))),
-    ) (List._∷_ (10, Rows'.any-gone (Syntax.tyArray (Syntax.tyInt Syntax.w32) 3)) (List._∷_ (
-      11,
-      Rows'.any-gone
-          (Syntax.tyRef Syntax.erased Syntax.mut (Syntax.tyArray (Syntax.tyArray (Syntax.tyInt Syntax.w32) 3) 256)),
-    ) (List._∷_ (
-      12,
-      Rows'.any-gone (Syntax.tyStruct (List._∷_ 38
-          (List._∷_ 91 (List._∷_ 93 List.[]))) (Syntax.tcons (Syntax.tyRef Syntax.erased Syntax.mut (Syntax.tyArray (Syntax.tyInt Syntax.w32) 3)) (Syntax.tcons (Syntax.tyInt Syntax.w64)
-          Syntax.tnil))),
-    ) (List._∷_ (13, Rows'.any-gone (Syntax.tyArray (Syntax.tyInt Syntax.w32) 3)) (List._∷_ (
-      14,
-      Rows'.any-gone (Syntax.tyRef Syntax.erased Syntax.mut
-          (Syntax.tyArray (Syntax.tyArray (Syntax.tyInt Syntax.w32) 3) 4096)),
-    ) (List._∷_ (
-      15,
-      Rows'.any-gone (Syntax.tyStruct (List._∷_ 38 (List._∷_ 91 (List._∷_ 93 List.[])))
-          (Syntax.tcons (Syntax.tyRef Syntax.erased Syntax.mut (Syntax.tyArray (Syntax.tyInt Syntax.w32) 3)) (Syntax.tcons (Syntax.tyInt Syntax.w64) Syntax.tnil))),
-    )
-    List.[])))))))))))))))
+  9,
+  Rows'.any-gone (Syntax.tyEnum (List._∷_ 114 (List._∷_ 101 (List._∷_ 102 (List._∷_ 117 (List._∷_ 115 (List._∷_ 97 (List._∷_ 108 (List._∷_
+      58 (List._∷_ 58 (List._∷_ 82 (List._∷_ 101 (List._∷_ 102 (List._∷_ 117 (List._∷_ 115 (List._∷_ 97 (List._∷_ 108 List.[])))))))))))))))) (Syntax.ttcons Syntax.tnil
+      (Syntax.ttcons Syntax.tnil (Syntax.ttcons Syntax.tnil (Syntax.ttcons Syntax.tnil (Syntax.ttcons Syntax.tnil (Syntax.ttcons Syntax.tnil (Syntax.ttcons Syntax.tnil (Syntax.ttcons
+      Syntax.tnil (Syntax.ttcons Syntax.tnil (Syntax.ttcons Syntax.tnil (Syntax.ttcons Syntax.tnil (Syntax.ttcons Syntax.tnil Syntax.ttnil))))))))))))),
+) (List._∷_ (
+  10,
+  Rows'.any-gone (Syntax.tyArray (Syntax.tyInt Syntax.w32) 3),
+) (List._∷_ (
+  11,
+  Rows'.any-gone (Syntax.tyRef Syntax.erased Syntax.mut (Syntax.tyArray (Syntax.tyArray (Syntax.tyInt
+      Syntax.w32) 3) 256)),
+) (List._∷_ (
+  12,
+  Rows'.any-gone (Syntax.tyStruct (List._∷_ 38 (List._∷_ 91 (List._∷_ 93 List.[]))) (Syntax.tcons (Syntax.tyRef Syntax.erased Syntax.mut
+      (Syntax.tyArray (Syntax.tyInt Syntax.w32) 3)) (Syntax.tcons (Syntax.tyInt Syntax.w64) Syntax.tnil))),
+) (List._∷_ (
+  13,
+  Rows'.any-gone (Syntax.tyArray (Syntax.tyInt Syntax.w32)
+      3),
+) (List._∷_ (14, Rows'.any-gone (Syntax.tyRef Syntax.erased Syntax.mut (Syntax.tyArray (Syntax.tyArray (Syntax.tyInt Syntax.w32) 3) 4096))) (List._∷_ (
+  15,
+  Rows'.any-gone
+      (Syntax.tyStruct (List._∷_ 38 (List._∷_ 91 (List._∷_ 93 List.[]))) (Syntax.tcons (Syntax.tyRef Syntax.erased Syntax.mut (Syntax.tyArray (Syntax.tyInt Syntax.w32) 3))
+      (Syntax.tcons (Syntax.tyInt Syntax.w64) Syntax.tnil))),
+) List.[])))))))))))))))
 
 abbrev pub t5 : List.List Row.Entry
 t5 = List._∷_ (
@@ -611,54 +620,54 @@ t5 = List._∷_ (
   1,
   Rows'.any-gone (Syntax.tyStruct (List._∷_ 103 (List._∷_ 114
       (List._∷_ 101 (List._∷_ 101 (List._∷_ 110 (List._∷_ 119 (List._∷_ 97 (List._∷_ 108 (List._∷_ 100 (List._∷_ 95 (List._∷_ 107 (List._∷_ 104 (List._∷_ 97 (List._∷_ 110 (List._∷_
-      110 (List._∷_ 97 (List._∷_ 58 (List._∷_ 58 (List._∷_ 83 (List._∷_ 116 (List._∷_ 114 (List._∷_ 101 (List._∷_ 97 (List._∷_ 109 List.[])))))))))))))))))))))))) (Syntax.tcons
-      (Syntax.tyStruct (List._∷_ 102 (List._∷_ 114 (List._∷_ 97 (List._∷_ 99 (List._∷_ 116 (List._∷_ 105 (List._∷_ 111 (List._∷_ 110 (List._∷_ 58 (List._∷_ 58 (List._∷_ 70 (List._∷_
-      114 (List._∷_ 97 (List._∷_ 99 (List._∷_ 116 (List._∷_ 105 (List._∷_ 111 (List._∷_ 110 List.[])))))))))))))))))) (Syntax.tcons (Syntax.tyInt Syntax.w32) (Syntax.tcons
-      (Syntax.tyInt Syntax.w32) Syntax.tnil))) (Syntax.tcons (Syntax.tyInt Syntax.w32) (Syntax.tcons (Syntax.tyInt Syntax.w32) Syntax.tnil)))),
-) (List._∷_ (
-  2,
-  Rows'.sslice Of.R
-      (Syntax.tyRef (Syntax.named 0) Syntax.imm Of.tyBy) 0,
-) (List._∷_ (
+      110 (List._∷_ 97 (List._∷_ 95 (List._∷_ 115 (List._∷_ 116 (List._∷_ 101 (List._∷_ 112 (List._∷_ 115 (List._∷_ 58 (List._∷_ 58 (List._∷_ 83 (List._∷_ 116 (List._∷_ 114 (List._∷_
+      101 (List._∷_ 97 (List._∷_ 109 List.[])))))))))))))))))))))))))))))) (Syntax.tcons (Syntax.tyStruct (List._∷_ 102 (List._∷_ 114 (List._∷_ 97 (List._∷_ 99 (List._∷_ 116
+      (List._∷_ 105 (List._∷_ 111 (List._∷_ 110 (List._∷_ 58 (List._∷_ 58 (List._∷_ 70 (List._∷_ 114 (List._∷_ 97 (List._∷_ 99 (List._∷_ 116 (List._∷_ 105 (List._∷_ 111 (List._∷_ 110
+      List.[])))))))))))))))))) (Syntax.tcons (Syntax.tyInt Syntax.w32) (Syntax.tcons (Syntax.tyInt Syntax.w32) Syntax.tnil))) (Syntax.tcons (Syntax.tyInt Syntax.w32) (Syntax.tcons
+      (Syntax.tyInt Syntax.w32) Syntax.tnil)))),
+) (List._∷_ (2, Rows'.sslice Of.R (Syntax.tyRef (Syntax.named 0) Syntax.imm Of.tyBy) 0) (List._∷_ (
   3,
-  Rows'.any-gone (Syntax.tyEnum (List._∷_ 103 (List._∷_ 114 (List._∷_ 101 (List._∷_ 101 (List._∷_ 110
-      (List._∷_ 119 (List._∷_ 97 (List._∷_ 108 (List._∷_ 100 (List._∷_ 95 (List._∷_ 107 (List._∷_ 104 (List._∷_ 97 (List._∷_ 110 (List._∷_ 110 (List._∷_ 97 (List._∷_ 95 (List._∷_ 102
-      (List._∷_ 97 (List._∷_ 99 (List._∷_ 101 (List._∷_ 58 (List._∷_ 58 (List._∷_ 112 (List._∷_ 97 (List._∷_ 114 (List._∷_ 116 (List._∷_ 115 (List._∷_ 58 (List._∷_ 58 (List._∷_ 81
-      (List._∷_ 117 (List._∷_ 101 (List._∷_ 115 (List._∷_ 116 (List._∷_ 105 (List._∷_ 111 (List._∷_ 110 List.[])))))))))))))))))))))))))))))))))))))) (Syntax.ttcons (Syntax.tcons
-      (Syntax.tyStruct (List._∷_ 102 (List._∷_ 114 (List._∷_ 97 (List._∷_ 99 (List._∷_ 116 (List._∷_ 105 (List._∷_ 111 (List._∷_ 110 (List._∷_ 58 (List._∷_ 58 (List._∷_ 70 (List._∷_
-      114 (List._∷_ 97 (List._∷_ 99 (List._∷_ 116 (List._∷_ 105 (List._∷_ 111 (List._∷_ 110 List.[])))))))))))))))))) (Syntax.tcons (Syntax.tyInt Syntax.w32) (Syntax.tcons
-      (Syntax.tyInt Syntax.w32) Syntax.tnil))) Syntax.tnil) (Syntax.ttcons Syntax.tnil (Syntax.ttcons Syntax.tnil (Syntax.ttcons Syntax.tnil Syntax.ttnil))))),
-) (List._∷_ (
-  4,
-  Rows'.sc-here (Row.sInt Syntax.w64),
-) (List._∷_ (5, Rows'.any-gone (Syntax.tyInt Syntax.w64)) (List._∷_ (
-  6,
-  Rows'.any-gone (Syntax.tyArray (Syntax.tyArray (Syntax.tyInt
-      Syntax.w32) 3) 256),
-) (List._∷_ (7, Rows'.any-gone (Syntax.tyArray (Syntax.tyArray (Syntax.tyInt Syntax.w32) 3) 4096)) (List._∷_ (8, Rows'.sc-here Row.sBool) (List._∷_ (
-  9,
-  Rows'.any-gone (Syntax.tyEnum (List._∷_ 114 (List._∷_ 101 (List._∷_ 102 (List._∷_ 117 (List._∷_ 115 (List._∷_ 97 (List._∷_ 108 (List._∷_ 58 (List._∷_ 58 (List._∷_ 82 (List._∷_
-      101 (List._∷_ 102 (List._∷_ 117 (List._∷_ 115 (List._∷_ 97 (List._∷_ 108 List.[])))))))))))))))) (Syntax.ttcons Syntax.tnil (Syntax.ttcons Syntax.tnil (Syntax.ttcons
-      Syntax.tnil (Syntax.ttcons Syntax.tnil (Syntax.ttcons Syntax.tnil (Syntax.ttcons Syntax.tnil (Syntax.ttcons Syntax.tnil (Syntax.ttcons Syntax.tnil (Syntax.ttcons Syntax.tnil
-      (Syntax.ttcons Syntax.tnil (Syntax.ttcons Syntax.tnil (Syntax.ttcons Syntax.tnil Syntax.ttnil))))))))))))),
-) (List._∷_ (
-  10,
-  Rows'.any-gone (Syntax.tyArray (Syntax.tyInt
-      Syntax.w32) 3),
-) (List._∷_ (11, Rows'.any-gone (Syntax.tyRef Syntax.erased Syntax.mut (Syntax.tyArray (Syntax.tyArray (Syntax.tyInt Syntax.w32) 3) 256))) (List._∷_ (
-  12,
-  Rows'.any-gone (Syntax.tyStruct (List._∷_ 38 (List._∷_ 91 (List._∷_ 93 List.[]))) (Syntax.tcons (Syntax.tyRef Syntax.erased Syntax.mut (Syntax.tyArray (Syntax.tyInt Syntax.w32)
-      3)) (Syntax.tcons (Syntax.tyInt Syntax.w64) Syntax.tnil))),
-) (List._∷_ (13, Rows'.any-gone (Syntax.tyArray (Syntax.tyInt Syntax.w32) 3)) (List._∷_ (
-  14,
   Rows'.any-gone
-      (Syntax.tyRef Syntax.erased Syntax.mut (Syntax.tyArray (Syntax.tyArray (Syntax.tyInt Syntax.w32) 3) 4096)),
-) (List._∷_ (
-  15,
-  Rows'.any-gone (Syntax.tyStruct (List._∷_ 38
-      (List._∷_ 91 (List._∷_ 93 List.[]))) (Syntax.tcons (Syntax.tyRef Syntax.erased Syntax.mut (Syntax.tyArray (Syntax.tyInt Syntax.w32) 3)) (Syntax.tcons (Syntax.tyInt Syntax.w64)
-      Syntax.tnil))),
-) List.[])))))))))))))))
+      (Syntax.tyEnum (List._∷_ 103 (List._∷_ 114 (List._∷_ 101 (List._∷_ 101 (List._∷_ 110 (List._∷_ 119 (List._∷_ 97 (List._∷_ 108 (List._∷_ 100 (List._∷_ 95 (List._∷_ 107 (List._∷_
+      104 (List._∷_ 97 (List._∷_ 110 (List._∷_ 110 (List._∷_ 97 (List._∷_ 95 (List._∷_ 102 (List._∷_ 97 (List._∷_ 99 (List._∷_ 101 (List._∷_ 58 (List._∷_ 58 (List._∷_ 112 (List._∷_
+      97 (List._∷_ 114 (List._∷_ 116 (List._∷_ 115 (List._∷_ 58 (List._∷_ 58 (List._∷_ 81 (List._∷_ 117 (List._∷_ 101 (List._∷_ 115 (List._∷_ 116 (List._∷_ 105 (List._∷_ 111
+      (List._∷_ 110 List.[])))))))))))))))))))))))))))))))))))))) (Syntax.ttcons (Syntax.tcons (Syntax.tyStruct (List._∷_ 102 (List._∷_ 114 (List._∷_ 97 (List._∷_ 99 (List._∷_ 116
+      (List._∷_ 105 (List._∷_ 111 (List._∷_ 110 (List._∷_ 58 (List._∷_ 58 (List._∷_ 70 (List._∷_ 114 (List._∷_ 97 (List._∷_ 99 (List._∷_ 116 (List._∷_ 105 (List._∷_ 111 (List._∷_ 110
+      List.[])))))))))))))))))) (Syntax.tcons (Syntax.tyInt Syntax.w32) (Syntax.tcons (Syntax.tyInt Syntax.w32) Syntax.tnil))) Syntax.tnil) (Syntax.ttcons Syntax.tnil (Syntax.ttcons
+      Syntax.tnil (Syntax.ttcons Syntax.tnil Syntax.ttnil))))),
+) (List._∷_ (4, Rows'.sc-here (Row.sInt Syntax.w64)) (List._∷_ (5, Rows'.any-gone (Syntax.tyInt Syntax.w64))
+    (List._∷_ (6, Rows'.any-gone (Syntax.tyArray (Syntax.tyArray (Syntax.tyInt Syntax.w32) 3) 256)) (List._∷_ (
+      7,
+      Rows'.any-gone (Syntax.tyArray (Syntax.tyArray (Syntax.tyInt
+          Syntax.w32) 3) 4096),
+    ) (List._∷_ (8, Rows'.sc-here Row.sBool) (List._∷_ (
+      9,
+      Rows'.any-gone (Syntax.tyEnum (List._∷_ 114 (List._∷_ 101 (List._∷_ 102 (List._∷_ 117 (List._∷_
+          115 (List._∷_ 97 (List._∷_ 108 (List._∷_ 58 (List._∷_ 58 (List._∷_ 82 (List._∷_ 101 (List._∷_ 102 (List._∷_ 117 (List._∷_ 115 (List._∷_ 97 (List._∷_ 108 List.[]))))))))))))))))
+          (Syntax.ttcons Syntax.tnil (Syntax.ttcons Syntax.tnil (Syntax.ttcons Syntax.tnil (Syntax.ttcons Syntax.tnil (Syntax.ttcons Syntax.tnil (Syntax.ttcons Syntax.tnil (Syntax.ttcons
+          Syntax.tnil (Syntax.ttcons Syntax.tnil (Syntax.ttcons Syntax.tnil (Syntax.ttcons Syntax.tnil (Syntax.ttcons Syntax.tnil (Syntax.ttcons Syntax.tnil Syntax.ttnil))))))))))))),
+    )
+    (List._∷_ (10, Rows'.any-gone (Syntax.tyArray (Syntax.tyInt Syntax.w32) 3)) (List._∷_ (
+      11,
+      Rows'.any-gone (Syntax.tyRef Syntax.erased Syntax.mut (Syntax.tyArray
+          (Syntax.tyArray (Syntax.tyInt Syntax.w32) 3) 256)),
+    ) (List._∷_ (
+      12,
+      Rows'.any-gone (Syntax.tyStruct (List._∷_ 38 (List._∷_ 91 (List._∷_ 93 List.[]))) (Syntax.tcons
+          (Syntax.tyRef Syntax.erased Syntax.mut (Syntax.tyArray (Syntax.tyInt Syntax.w32) 3)) (Syntax.tcons (Syntax.tyInt Syntax.w64) Syntax.tnil))),
+    ) (List._∷_ (
+      13,
+      Rows'.any-gone
+          (Syntax.tyArray (Syntax.tyInt Syntax.w32) 3),
+    ) (List._∷_ (
+      14,
+      Rows'.any-gone (Syntax.tyRef Syntax.erased Syntax.mut (Syntax.tyArray (Syntax.tyArray (Syntax.tyInt Syntax.w32) 3)
+          4096)),
+    ) (List._∷_ (
+      15,
+      Rows'.any-gone (Syntax.tyStruct (List._∷_ 38 (List._∷_ 91 (List._∷_ 93 List.[]))) (Syntax.tcons (Syntax.tyRef Syntax.erased Syntax.mut (Syntax.tyArray
+          (Syntax.tyInt Syntax.w32) 3)) (Syntax.tcons (Syntax.tyInt Syntax.w64) Syntax.tnil))),
+    ) List.[])))))))))))))))
 
 abbrev pub t6 : List.List Row.Entry
 t6 = List._∷_ (
@@ -674,54 +683,53 @@ t6 = List._∷_ (
   1,
   Rows'.any-gone (Syntax.tyStruct (List._∷_ 103 (List._∷_ 114
       (List._∷_ 101 (List._∷_ 101 (List._∷_ 110 (List._∷_ 119 (List._∷_ 97 (List._∷_ 108 (List._∷_ 100 (List._∷_ 95 (List._∷_ 107 (List._∷_ 104 (List._∷_ 97 (List._∷_ 110 (List._∷_
-      110 (List._∷_ 97 (List._∷_ 58 (List._∷_ 58 (List._∷_ 83 (List._∷_ 116 (List._∷_ 114 (List._∷_ 101 (List._∷_ 97 (List._∷_ 109 List.[])))))))))))))))))))))))) (Syntax.tcons
-      (Syntax.tyStruct (List._∷_ 102 (List._∷_ 114 (List._∷_ 97 (List._∷_ 99 (List._∷_ 116 (List._∷_ 105 (List._∷_ 111 (List._∷_ 110 (List._∷_ 58 (List._∷_ 58 (List._∷_ 70 (List._∷_
-      114 (List._∷_ 97 (List._∷_ 99 (List._∷_ 116 (List._∷_ 105 (List._∷_ 111 (List._∷_ 110 List.[])))))))))))))))))) (Syntax.tcons (Syntax.tyInt Syntax.w32) (Syntax.tcons
-      (Syntax.tyInt Syntax.w32) Syntax.tnil))) (Syntax.tcons (Syntax.tyInt Syntax.w32) (Syntax.tcons (Syntax.tyInt Syntax.w32) Syntax.tnil)))),
-) (List._∷_ (
-  2,
-  Rows'.sslice Of.R
-      (Syntax.tyRef (Syntax.named 0) Syntax.imm Of.tyBy) 0,
-) (List._∷_ (
+      110 (List._∷_ 97 (List._∷_ 95 (List._∷_ 115 (List._∷_ 116 (List._∷_ 101 (List._∷_ 112 (List._∷_ 115 (List._∷_ 58 (List._∷_ 58 (List._∷_ 83 (List._∷_ 116 (List._∷_ 114 (List._∷_
+      101 (List._∷_ 97 (List._∷_ 109 List.[])))))))))))))))))))))))))))))) (Syntax.tcons (Syntax.tyStruct (List._∷_ 102 (List._∷_ 114 (List._∷_ 97 (List._∷_ 99 (List._∷_ 116
+      (List._∷_ 105 (List._∷_ 111 (List._∷_ 110 (List._∷_ 58 (List._∷_ 58 (List._∷_ 70 (List._∷_ 114 (List._∷_ 97 (List._∷_ 99 (List._∷_ 116 (List._∷_ 105 (List._∷_ 111 (List._∷_ 110
+      List.[])))))))))))))))))) (Syntax.tcons (Syntax.tyInt Syntax.w32) (Syntax.tcons (Syntax.tyInt Syntax.w32) Syntax.tnil))) (Syntax.tcons (Syntax.tyInt Syntax.w32) (Syntax.tcons
+      (Syntax.tyInt Syntax.w32) Syntax.tnil)))),
+) (List._∷_ (2, Rows'.sslice Of.R (Syntax.tyRef (Syntax.named 0) Syntax.imm Of.tyBy) 0) (List._∷_ (
   3,
-  Rows'.any-gone (Syntax.tyEnum (List._∷_ 103 (List._∷_ 114 (List._∷_ 101 (List._∷_ 101 (List._∷_ 110
-      (List._∷_ 119 (List._∷_ 97 (List._∷_ 108 (List._∷_ 100 (List._∷_ 95 (List._∷_ 107 (List._∷_ 104 (List._∷_ 97 (List._∷_ 110 (List._∷_ 110 (List._∷_ 97 (List._∷_ 95 (List._∷_ 102
-      (List._∷_ 97 (List._∷_ 99 (List._∷_ 101 (List._∷_ 58 (List._∷_ 58 (List._∷_ 112 (List._∷_ 97 (List._∷_ 114 (List._∷_ 116 (List._∷_ 115 (List._∷_ 58 (List._∷_ 58 (List._∷_ 81
-      (List._∷_ 117 (List._∷_ 101 (List._∷_ 115 (List._∷_ 116 (List._∷_ 105 (List._∷_ 111 (List._∷_ 110 List.[])))))))))))))))))))))))))))))))))))))) (Syntax.ttcons (Syntax.tcons
-      (Syntax.tyStruct (List._∷_ 102 (List._∷_ 114 (List._∷_ 97 (List._∷_ 99 (List._∷_ 116 (List._∷_ 105 (List._∷_ 111 (List._∷_ 110 (List._∷_ 58 (List._∷_ 58 (List._∷_ 70 (List._∷_
-      114 (List._∷_ 97 (List._∷_ 99 (List._∷_ 116 (List._∷_ 105 (List._∷_ 111 (List._∷_ 110 List.[])))))))))))))))))) (Syntax.tcons (Syntax.tyInt Syntax.w32) (Syntax.tcons
-      (Syntax.tyInt Syntax.w32) Syntax.tnil))) Syntax.tnil) (Syntax.ttcons Syntax.tnil (Syntax.ttcons Syntax.tnil (Syntax.ttcons Syntax.tnil Syntax.ttnil))))),
-) (List._∷_ (
-  4,
-  Rows'.sc-here (Row.sInt Syntax.w64),
-) (List._∷_ (5, Rows'.any-gone (Syntax.tyInt Syntax.w64)) (List._∷_ (
-  6,
-  Rows'.any-gone (Syntax.tyArray (Syntax.tyArray (Syntax.tyInt
-      Syntax.w32) 3) 256),
-) (List._∷_ (7, Rows'.any-gone (Syntax.tyArray (Syntax.tyArray (Syntax.tyInt Syntax.w32) 3) 4096)) (List._∷_ (8, Rows'.any-gone Syntax.tyBool) (List._∷_ (
-  9,
-  Rows'.any-gone (Syntax.tyEnum (List._∷_ 114 (List._∷_ 101 (List._∷_ 102 (List._∷_ 117 (List._∷_ 115 (List._∷_ 97 (List._∷_ 108 (List._∷_ 58 (List._∷_ 58 (List._∷_ 82
-      (List._∷_ 101 (List._∷_ 102 (List._∷_ 117 (List._∷_ 115 (List._∷_ 97 (List._∷_ 108 List.[])))))))))))))))) (Syntax.ttcons Syntax.tnil (Syntax.ttcons Syntax.tnil (Syntax.ttcons
-      Syntax.tnil (Syntax.ttcons Syntax.tnil (Syntax.ttcons Syntax.tnil (Syntax.ttcons Syntax.tnil (Syntax.ttcons Syntax.tnil (Syntax.ttcons Syntax.tnil (Syntax.ttcons Syntax.tnil
-      (Syntax.ttcons Syntax.tnil (Syntax.ttcons Syntax.tnil (Syntax.ttcons Syntax.tnil Syntax.ttnil))))))))))))),
-) (List._∷_ (
-  10,
-  Rows'.any-gone (Syntax.tyArray (Syntax.tyInt
-      Syntax.w32) 3),
-) (List._∷_ (11, Rows'.any-gone (Syntax.tyRef Syntax.erased Syntax.mut (Syntax.tyArray (Syntax.tyArray (Syntax.tyInt Syntax.w32) 3) 256))) (List._∷_ (
-  12,
-  Rows'.any-gone (Syntax.tyStruct (List._∷_ 38 (List._∷_ 91 (List._∷_ 93 List.[]))) (Syntax.tcons (Syntax.tyRef Syntax.erased Syntax.mut (Syntax.tyArray (Syntax.tyInt Syntax.w32)
-      3)) (Syntax.tcons (Syntax.tyInt Syntax.w64) Syntax.tnil))),
-) (List._∷_ (13, Rows'.any-gone (Syntax.tyArray (Syntax.tyInt Syntax.w32) 3)) (List._∷_ (
-  14,
   Rows'.any-gone
-      (Syntax.tyRef Syntax.erased Syntax.mut (Syntax.tyArray (Syntax.tyArray (Syntax.tyInt Syntax.w32) 3) 4096)),
-) (List._∷_ (
-  15,
-  Rows'.any-gone (Syntax.tyStruct (List._∷_ 38
-      (List._∷_ 91 (List._∷_ 93 List.[]))) (Syntax.tcons (Syntax.tyRef Syntax.erased Syntax.mut (Syntax.tyArray (Syntax.tyInt Syntax.w32) 3)) (Syntax.tcons (Syntax.tyInt Syntax.w64)
-      Syntax.tnil))),
-) List.[])))))))))))))))
+      (Syntax.tyEnum (List._∷_ 103 (List._∷_ 114 (List._∷_ 101 (List._∷_ 101 (List._∷_ 110 (List._∷_ 119 (List._∷_ 97 (List._∷_ 108 (List._∷_ 100 (List._∷_ 95 (List._∷_ 107 (List._∷_
+      104 (List._∷_ 97 (List._∷_ 110 (List._∷_ 110 (List._∷_ 97 (List._∷_ 95 (List._∷_ 102 (List._∷_ 97 (List._∷_ 99 (List._∷_ 101 (List._∷_ 58 (List._∷_ 58 (List._∷_ 112 (List._∷_
+      97 (List._∷_ 114 (List._∷_ 116 (List._∷_ 115 (List._∷_ 58 (List._∷_ 58 (List._∷_ 81 (List._∷_ 117 (List._∷_ 101 (List._∷_ 115 (List._∷_ 116 (List._∷_ 105 (List._∷_ 111
+      (List._∷_ 110 List.[])))))))))))))))))))))))))))))))))))))) (Syntax.ttcons (Syntax.tcons (Syntax.tyStruct (List._∷_ 102 (List._∷_ 114 (List._∷_ 97 (List._∷_ 99 (List._∷_ 116
+      (List._∷_ 105 (List._∷_ 111 (List._∷_ 110 (List._∷_ 58 (List._∷_ 58 (List._∷_ 70 (List._∷_ 114 (List._∷_ 97 (List._∷_ 99 (List._∷_ 116 (List._∷_ 105 (List._∷_ 111 (List._∷_ 110
+      List.[])))))))))))))))))) (Syntax.tcons (Syntax.tyInt Syntax.w32) (Syntax.tcons (Syntax.tyInt Syntax.w32) Syntax.tnil))) Syntax.tnil) (Syntax.ttcons Syntax.tnil (Syntax.ttcons
+      Syntax.tnil (Syntax.ttcons Syntax.tnil Syntax.ttnil))))),
+) (List._∷_ (4, Rows'.sc-here (Row.sInt Syntax.w64)) (List._∷_ (5, Rows'.any-gone (Syntax.tyInt Syntax.w64))
+    (List._∷_ (6, Rows'.any-gone (Syntax.tyArray (Syntax.tyArray (Syntax.tyInt Syntax.w32) 3) 256)) (List._∷_ (
+      7,
+      Rows'.any-gone (Syntax.tyArray (Syntax.tyArray (Syntax.tyInt
+          Syntax.w32) 3) 4096),
+    ) (List._∷_ (8, Rows'.any-gone Syntax.tyBool) (List._∷_ (
+      9,
+      Rows'.any-gone (Syntax.tyEnum (List._∷_ 114 (List._∷_ 101 (List._∷_ 102 (List._∷_ 117
+          (List._∷_ 115 (List._∷_ 97 (List._∷_ 108 (List._∷_ 58 (List._∷_ 58 (List._∷_ 82 (List._∷_ 101 (List._∷_ 102 (List._∷_ 117 (List._∷_ 115 (List._∷_ 97 (List._∷_ 108
+          List.[])))))))))))))))) (Syntax.ttcons Syntax.tnil (Syntax.ttcons Syntax.tnil (Syntax.ttcons Syntax.tnil (Syntax.ttcons Syntax.tnil (Syntax.ttcons Syntax.tnil (Syntax.ttcons
+          Syntax.tnil (Syntax.ttcons Syntax.tnil (Syntax.ttcons Syntax.tnil (Syntax.ttcons Syntax.tnil (Syntax.ttcons Syntax.tnil (Syntax.ttcons Syntax.tnil (Syntax.ttcons Syntax.tnil
+          Syntax.ttnil))))))))))))),
+    ) (List._∷_ (10, Rows'.any-gone (Syntax.tyArray (Syntax.tyInt Syntax.w32) 3)) (List._∷_ (
+      11,
+      Rows'.any-gone (Syntax.tyRef Syntax.erased Syntax.mut
+          (Syntax.tyArray (Syntax.tyArray (Syntax.tyInt Syntax.w32) 3) 256)),
+    ) (List._∷_ (
+      12,
+      Rows'.any-gone (Syntax.tyStruct (List._∷_ 38 (List._∷_ 91 (List._∷_ 93 List.[])))
+          (Syntax.tcons (Syntax.tyRef Syntax.erased Syntax.mut (Syntax.tyArray (Syntax.tyInt Syntax.w32) 3)) (Syntax.tcons (Syntax.tyInt Syntax.w64) Syntax.tnil))),
+    ) (List._∷_ (
+      13,
+      Rows'.any-gone (Syntax.tyArray (Syntax.tyInt Syntax.w32) 3),
+    ) (List._∷_ (
+      14,
+      Rows'.any-gone (Syntax.tyRef Syntax.erased Syntax.mut (Syntax.tyArray (Syntax.tyArray (Syntax.tyInt
+          Syntax.w32) 3) 4096)),
+    ) (List._∷_ (
+      15,
+      Rows'.any-gone (Syntax.tyStruct (List._∷_ 38 (List._∷_ 91 (List._∷_ 93 List.[]))) (Syntax.tcons (Syntax.tyRef Syntax.erased Syntax.mut
+          (Syntax.tyArray (Syntax.tyInt Syntax.w32) 3)) (Syntax.tcons (Syntax.tyInt Syntax.w64) Syntax.tnil))),
+    ) List.[])))))))))))))))
 
 abbrev pub t7 : List.List Row.Entry
 t7 = List._∷_ (
@@ -737,151 +745,140 @@ t7 = List._∷_ (
   1,
   Rows'.any-gone (Syntax.tyStruct (List._∷_ 103 (List._∷_ 114
       (List._∷_ 101 (List._∷_ 101 (List._∷_ 110 (List._∷_ 119 (List._∷_ 97 (List._∷_ 108 (List._∷_ 100 (List._∷_ 95 (List._∷_ 107 (List._∷_ 104 (List._∷_ 97 (List._∷_ 110 (List._∷_
-      110 (List._∷_ 97 (List._∷_ 58 (List._∷_ 58 (List._∷_ 83 (List._∷_ 116 (List._∷_ 114 (List._∷_ 101 (List._∷_ 97 (List._∷_ 109 List.[])))))))))))))))))))))))) (Syntax.tcons
-      (Syntax.tyStruct (List._∷_ 102 (List._∷_ 114 (List._∷_ 97 (List._∷_ 99 (List._∷_ 116 (List._∷_ 105 (List._∷_ 111 (List._∷_ 110 (List._∷_ 58 (List._∷_ 58 (List._∷_ 70 (List._∷_
-      114 (List._∷_ 97 (List._∷_ 99 (List._∷_ 116 (List._∷_ 105 (List._∷_ 111 (List._∷_ 110 List.[])))))))))))))))))) (Syntax.tcons (Syntax.tyInt Syntax.w32) (Syntax.tcons
-      (Syntax.tyInt Syntax.w32) Syntax.tnil))) (Syntax.tcons (Syntax.tyInt Syntax.w32) (Syntax.tcons (Syntax.tyInt Syntax.w32) Syntax.tnil)))),
-) (List._∷_ (
-  2,
-  Rows'.sslice Of.R
-      (Syntax.tyRef (Syntax.named 0) Syntax.imm Of.tyBy) 0,
-) (List._∷_ (
+      110 (List._∷_ 97 (List._∷_ 95 (List._∷_ 115 (List._∷_ 116 (List._∷_ 101 (List._∷_ 112 (List._∷_ 115 (List._∷_ 58 (List._∷_ 58 (List._∷_ 83 (List._∷_ 116 (List._∷_ 114 (List._∷_
+      101 (List._∷_ 97 (List._∷_ 109 List.[])))))))))))))))))))))))))))))) (Syntax.tcons (Syntax.tyStruct (List._∷_ 102 (List._∷_ 114 (List._∷_ 97 (List._∷_ 99 (List._∷_ 116
+      (List._∷_ 105 (List._∷_ 111 (List._∷_ 110 (List._∷_ 58 (List._∷_ 58 (List._∷_ 70 (List._∷_ 114 (List._∷_ 97 (List._∷_ 99 (List._∷_ 116 (List._∷_ 105 (List._∷_ 111 (List._∷_ 110
+      List.[])))))))))))))))))) (Syntax.tcons (Syntax.tyInt Syntax.w32) (Syntax.tcons (Syntax.tyInt Syntax.w32) Syntax.tnil))) (Syntax.tcons (Syntax.tyInt Syntax.w32) (Syntax.tcons
+      (Syntax.tyInt Syntax.w32) Syntax.tnil)))),
+) (List._∷_ (2, Rows'.sslice Of.R (Syntax.tyRef (Syntax.named 0) Syntax.imm Of.tyBy) 0) (List._∷_ (
   3,
-  Rows'.any-gone (Syntax.tyEnum (List._∷_ 103 (List._∷_ 114 (List._∷_ 101 (List._∷_ 101 (List._∷_ 110
-      (List._∷_ 119 (List._∷_ 97 (List._∷_ 108 (List._∷_ 100 (List._∷_ 95 (List._∷_ 107 (List._∷_ 104 (List._∷_ 97 (List._∷_ 110 (List._∷_ 110 (List._∷_ 97 (List._∷_ 95 (List._∷_ 102
-      (List._∷_ 97 (List._∷_ 99 (List._∷_ 101 (List._∷_ 58 (List._∷_ 58 (List._∷_ 112 (List._∷_ 97 (List._∷_ 114 (List._∷_ 116 (List._∷_ 115 (List._∷_ 58 (List._∷_ 58 (List._∷_ 81
-      (List._∷_ 117 (List._∷_ 101 (List._∷_ 115 (List._∷_ 116 (List._∷_ 105 (List._∷_ 111 (List._∷_ 110 List.[])))))))))))))))))))))))))))))))))))))) (Syntax.ttcons (Syntax.tcons
-      (Syntax.tyStruct (List._∷_ 102 (List._∷_ 114 (List._∷_ 97 (List._∷_ 99 (List._∷_ 116 (List._∷_ 105 (List._∷_ 111 (List._∷_ 110 (List._∷_ 58 (List._∷_ 58 (List._∷_ 70 (List._∷_
-      114 (List._∷_ 97 (List._∷_ 99 (List._∷_ 116 (List._∷_ 105 (List._∷_ 111 (List._∷_ 110 List.[])))))))))))))))))) (Syntax.tcons (Syntax.tyInt Syntax.w32) (Syntax.tcons
-      (Syntax.tyInt Syntax.w32) Syntax.tnil))) Syntax.tnil) (Syntax.ttcons Syntax.tnil (Syntax.ttcons Syntax.tnil (Syntax.ttcons Syntax.tnil Syntax.ttnil))))),
-) (List._∷_ (
-  4,
-  Rows'.sc-here (Row.sInt Syntax.w64),
-) (List._∷_ (5, Rows'.any-gone (Syntax.tyInt Syntax.w64)) (List._∷_ (
-  6,
-  Rows'.any-gone (Syntax.tyArray (Syntax.tyArray (Syntax.tyInt
-      Syntax.w32) 3) 256),
-) (List._∷_ (7, Rows'.any-gone (Syntax.tyArray (Syntax.tyArray (Syntax.tyInt Syntax.w32) 3) 4096)) (List._∷_ (8, Rows'.any-gone Syntax.tyBool) (List._∷_
-    (9, Rows'.whole (Declared.row Refusal.the-type)) (List._∷_ (10, Rows'.any-gone (Syntax.tyArray (Syntax.tyInt Syntax.w32) 3)) (List._∷_ (
-      11,
-      Rows'.any-gone (Syntax.tyRef
-          Syntax.erased Syntax.mut (Syntax.tyArray (Syntax.tyArray (Syntax.tyInt Syntax.w32) 3) 256)),
-    ) (List._∷_ (
+  Rows'.any-gone
+      (Syntax.tyEnum (List._∷_ 103 (List._∷_ 114 (List._∷_ 101 (List._∷_ 101 (List._∷_ 110 (List._∷_ 119 (List._∷_ 97 (List._∷_ 108 (List._∷_ 100 (List._∷_ 95 (List._∷_ 107 (List._∷_
+      104 (List._∷_ 97 (List._∷_ 110 (List._∷_ 110 (List._∷_ 97 (List._∷_ 95 (List._∷_ 102 (List._∷_ 97 (List._∷_ 99 (List._∷_ 101 (List._∷_ 58 (List._∷_ 58 (List._∷_ 112 (List._∷_
+      97 (List._∷_ 114 (List._∷_ 116 (List._∷_ 115 (List._∷_ 58 (List._∷_ 58 (List._∷_ 81 (List._∷_ 117 (List._∷_ 101 (List._∷_ 115 (List._∷_ 116 (List._∷_ 105 (List._∷_ 111
+      (List._∷_ 110 List.[])))))))))))))))))))))))))))))))))))))) (Syntax.ttcons (Syntax.tcons (Syntax.tyStruct (List._∷_ 102 (List._∷_ 114 (List._∷_ 97 (List._∷_ 99 (List._∷_ 116
+      (List._∷_ 105 (List._∷_ 111 (List._∷_ 110 (List._∷_ 58 (List._∷_ 58 (List._∷_ 70 (List._∷_ 114 (List._∷_ 97 (List._∷_ 99 (List._∷_ 116 (List._∷_ 105 (List._∷_ 111 (List._∷_ 110
+      List.[])))))))))))))))))) (Syntax.tcons (Syntax.tyInt Syntax.w32) (Syntax.tcons (Syntax.tyInt Syntax.w32) Syntax.tnil))) Syntax.tnil) (Syntax.ttcons Syntax.tnil (Syntax.ttcons
+      Syntax.tnil (Syntax.ttcons Syntax.tnil Syntax.ttnil))))),
+) (List._∷_ (4, Rows'.sc-here (Row.sInt Syntax.w64)) (List._∷_ (5, Rows'.any-gone (Syntax.tyInt Syntax.w64))
+    (List._∷_ (6, Rows'.any-gone (Syntax.tyArray (Syntax.tyArray (Syntax.tyInt Syntax.w32) 3) 256)) (List._∷_ (
+      7,
+      Rows'.any-gone (Syntax.tyArray (Syntax.tyArray (Syntax.tyInt
+          Syntax.w32) 3) 4096),
+    ) (List._∷_ (8, Rows'.any-gone Syntax.tyBool) (List._∷_ (9, Rows'.whole (Declared.row Refusal.the-type)) (List._∷_ (
+      10,
+      Rows'.any-gone (Syntax.tyArray
+          (Syntax.tyInt Syntax.w32) 3),
+    ) (List._∷_ (11, Rows'.any-gone (Syntax.tyRef Syntax.erased Syntax.mut (Syntax.tyArray (Syntax.tyArray (Syntax.tyInt Syntax.w32) 3) 256)))
+    (List._∷_ (
       12,
-      Rows'.any-gone (Syntax.tyStruct (List._∷_ 38 (List._∷_ 91
-          (List._∷_ 93 List.[]))) (Syntax.tcons (Syntax.tyRef Syntax.erased Syntax.mut (Syntax.tyArray (Syntax.tyInt Syntax.w32) 3)) (Syntax.tcons (Syntax.tyInt Syntax.w64)
-          Syntax.tnil))),
+      Rows'.any-gone (Syntax.tyStruct (List._∷_ 38 (List._∷_ 91 (List._∷_ 93 List.[]))) (Syntax.tcons (Syntax.tyRef Syntax.erased Syntax.mut (Syntax.tyArray
+          (Syntax.tyInt Syntax.w32) 3)) (Syntax.tcons (Syntax.tyInt Syntax.w64) Syntax.tnil))),
     ) (List._∷_ (13, Rows'.any-gone (Syntax.tyArray (Syntax.tyInt Syntax.w32) 3)) (List._∷_ (
       14,
-      Rows'.any-gone (Syntax.tyRef Syntax.erased Syntax.mut
-          (Syntax.tyArray (Syntax.tyArray (Syntax.tyInt Syntax.w32) 3) 4096)),
+      Rows'.any-gone (Syntax.tyRef Syntax.erased Syntax.mut (Syntax.tyArray (Syntax.tyArray (Syntax.tyInt Syntax.w32) 3) 4096)),
     ) (List._∷_ (
       15,
-      Rows'.any-gone (Syntax.tyStruct (List._∷_ 38 (List._∷_ 91 (List._∷_ 93 List.[])))
-          (Syntax.tcons (Syntax.tyRef Syntax.erased Syntax.mut (Syntax.tyArray (Syntax.tyInt Syntax.w32) 3)) (Syntax.tcons (Syntax.tyInt Syntax.w64) Syntax.tnil))),
-    )
-    List.[])))))))))))))))
+      Rows'.any-gone (Syntax.tyStruct
+          (List._∷_ 38 (List._∷_ 91 (List._∷_ 93 List.[]))) (Syntax.tcons (Syntax.tyRef Syntax.erased Syntax.mut (Syntax.tyArray (Syntax.tyInt Syntax.w32) 3)) (Syntax.tcons (Syntax.tyInt
+          Syntax.w64) Syntax.tnil))),
+    ) List.[])))))))))))))))
 
 abbrev pub t8 : List.List Row.Entry
 t8 = List._∷_ (0, Rows'.whole (Declared.row Answer.the-type)) (List._∷_ (
   1,
   Rows'.any-gone (Syntax.tyStruct (List._∷_ 103 (List._∷_ 114 (List._∷_ 101 (List._∷_ 101 (List._∷_ 110
-      (List._∷_ 119 (List._∷_ 97 (List._∷_ 108 (List._∷_ 100 (List._∷_ 95 (List._∷_ 107 (List._∷_ 104 (List._∷_ 97 (List._∷_ 110 (List._∷_ 110 (List._∷_ 97 (List._∷_ 58 (List._∷_ 58
-      (List._∷_ 83 (List._∷_ 116 (List._∷_ 114 (List._∷_ 101 (List._∷_ 97 (List._∷_ 109 List.[])))))))))))))))))))))))) (Syntax.tcons (Syntax.tyStruct (List._∷_ 102 (List._∷_ 114
-      (List._∷_ 97 (List._∷_ 99 (List._∷_ 116 (List._∷_ 105 (List._∷_ 111 (List._∷_ 110 (List._∷_ 58 (List._∷_ 58 (List._∷_ 70 (List._∷_ 114 (List._∷_ 97 (List._∷_ 99 (List._∷_ 116
-      (List._∷_ 105 (List._∷_ 111 (List._∷_ 110 List.[])))))))))))))))))) (Syntax.tcons (Syntax.tyInt Syntax.w32) (Syntax.tcons (Syntax.tyInt Syntax.w32) Syntax.tnil))) (Syntax.tcons
-      (Syntax.tyInt Syntax.w32) (Syntax.tcons (Syntax.tyInt Syntax.w32) Syntax.tnil)))),
-) (List._∷_ (2, Rows'.sslice Of.R (Syntax.tyRef (Syntax.named 0) Syntax.imm Of.tyBy) 0)
-    (List._∷_ (
-      3,
-      Rows'.any-gone (Syntax.tyEnum (List._∷_ 103 (List._∷_ 114 (List._∷_ 101 (List._∷_ 101 (List._∷_ 110 (List._∷_ 119 (List._∷_ 97 (List._∷_ 108 (List._∷_ 100
-          (List._∷_ 95 (List._∷_ 107 (List._∷_ 104 (List._∷_ 97 (List._∷_ 110 (List._∷_ 110 (List._∷_ 97 (List._∷_ 95 (List._∷_ 102 (List._∷_ 97 (List._∷_ 99 (List._∷_ 101 (List._∷_ 58
-          (List._∷_ 58 (List._∷_ 112 (List._∷_ 97 (List._∷_ 114 (List._∷_ 116 (List._∷_ 115 (List._∷_ 58 (List._∷_ 58 (List._∷_ 81 (List._∷_ 117 (List._∷_ 101 (List._∷_ 115 (List._∷_ 116
-          (List._∷_ 105 (List._∷_ 111 (List._∷_ 110 List.[])))))))))))))))))))))))))))))))))))))) (Syntax.ttcons (Syntax.tcons (Syntax.tyStruct (List._∷_ 102 (List._∷_ 114 (List._∷_ 97
-          (List._∷_ 99 (List._∷_ 116 (List._∷_ 105 (List._∷_ 111 (List._∷_ 110 (List._∷_ 58 (List._∷_ 58 (List._∷_ 70 (List._∷_ 114 (List._∷_ 97 (List._∷_ 99 (List._∷_ 116 (List._∷_ 105
-          (List._∷_ 111 (List._∷_ 110 List.[])))))))))))))))))) (Syntax.tcons (Syntax.tyInt Syntax.w32) (Syntax.tcons (Syntax.tyInt Syntax.w32) Syntax.tnil))) Syntax.tnil) (Syntax.ttcons
-          Syntax.tnil (Syntax.ttcons Syntax.tnil (Syntax.ttcons Syntax.tnil Syntax.ttnil))))),
-    ) (List._∷_ (4, Rows'.sc-here (Row.sInt Syntax.w64)) (List._∷_ (
-      5,
-      Rows'.any-gone
-          (Syntax.tyInt Syntax.w64),
-    ) (List._∷_ (6, Rows'.any-gone (Syntax.tyArray (Syntax.tyArray (Syntax.tyInt Syntax.w32) 3) 256)) (List._∷_ (
+      (List._∷_ 119 (List._∷_ 97 (List._∷_ 108 (List._∷_ 100 (List._∷_ 95 (List._∷_ 107 (List._∷_ 104 (List._∷_ 97 (List._∷_ 110 (List._∷_ 110 (List._∷_ 97 (List._∷_ 95 (List._∷_ 115
+      (List._∷_ 116 (List._∷_ 101 (List._∷_ 112 (List._∷_ 115 (List._∷_ 58 (List._∷_ 58 (List._∷_ 83 (List._∷_ 116 (List._∷_ 114 (List._∷_ 101 (List._∷_ 97 (List._∷_ 109
+      List.[])))))))))))))))))))))))))))))) (Syntax.tcons (Syntax.tyStruct (List._∷_ 102 (List._∷_ 114 (List._∷_ 97 (List._∷_ 99 (List._∷_ 116 (List._∷_ 105 (List._∷_ 111 (List._∷_
+      110 (List._∷_ 58 (List._∷_ 58 (List._∷_ 70 (List._∷_ 114 (List._∷_ 97 (List._∷_ 99 (List._∷_ 116 (List._∷_ 105 (List._∷_ 111 (List._∷_ 110 List.[]))))))))))))))))))
+      (Syntax.tcons (Syntax.tyInt Syntax.w32) (Syntax.tcons (Syntax.tyInt Syntax.w32) Syntax.tnil))) (Syntax.tcons (Syntax.tyInt Syntax.w32) (Syntax.tcons (Syntax.tyInt Syntax.w32)
+      Syntax.tnil)))),
+) (List._∷_ (2, Rows'.sslice Of.R (Syntax.tyRef (Syntax.named 0) Syntax.imm Of.tyBy) 0) (List._∷_ (
+  3,
+  Rows'.any-gone (Syntax.tyEnum (List._∷_ 103 (List._∷_
+      114 (List._∷_ 101 (List._∷_ 101 (List._∷_ 110 (List._∷_ 119 (List._∷_ 97 (List._∷_ 108 (List._∷_ 100 (List._∷_ 95 (List._∷_ 107 (List._∷_ 104 (List._∷_ 97 (List._∷_ 110
+      (List._∷_ 110 (List._∷_ 97 (List._∷_ 95 (List._∷_ 102 (List._∷_ 97 (List._∷_ 99 (List._∷_ 101 (List._∷_ 58 (List._∷_ 58 (List._∷_ 112 (List._∷_ 97 (List._∷_ 114 (List._∷_ 116
+      (List._∷_ 115 (List._∷_ 58 (List._∷_ 58 (List._∷_ 81 (List._∷_ 117 (List._∷_ 101 (List._∷_ 115 (List._∷_ 116 (List._∷_ 105 (List._∷_ 111 (List._∷_ 110
+      List.[])))))))))))))))))))))))))))))))))))))) (Syntax.ttcons (Syntax.tcons (Syntax.tyStruct (List._∷_ 102 (List._∷_ 114 (List._∷_ 97 (List._∷_ 99 (List._∷_ 116 (List._∷_ 105
+      (List._∷_ 111 (List._∷_ 110 (List._∷_ 58 (List._∷_ 58 (List._∷_ 70 (List._∷_ 114 (List._∷_ 97 (List._∷_ 99 (List._∷_ 116 (List._∷_ 105 (List._∷_ 111 (List._∷_ 110
+      List.[])))))))))))))))))) (Syntax.tcons (Syntax.tyInt Syntax.w32) (Syntax.tcons (Syntax.tyInt Syntax.w32) Syntax.tnil))) Syntax.tnil) (Syntax.ttcons Syntax.tnil (Syntax.ttcons
+      Syntax.tnil (Syntax.ttcons Syntax.tnil Syntax.ttnil))))),
+) (List._∷_ (4, Rows'.sc-here (Row.sInt Syntax.w64)) (List._∷_ (5, Rows'.any-gone (Syntax.tyInt Syntax.w64))
+    (List._∷_ (6, Rows'.any-gone (Syntax.tyArray (Syntax.tyArray (Syntax.tyInt Syntax.w32) 3) 256)) (List._∷_ (
       7,
-      Rows'.any-gone (Syntax.tyArray
-          (Syntax.tyArray (Syntax.tyInt Syntax.w32) 3) 4096),
+      Rows'.any-gone (Syntax.tyArray (Syntax.tyArray (Syntax.tyInt
+          Syntax.w32) 3) 4096),
     ) (List._∷_ (8, Rows'.any-gone Syntax.tyBool) (List._∷_ (9, Rows'.whole (Declared.row Refusal.the-type)) (List._∷_ (
       10,
-      Rows'.any-gone (Syntax.tyArray (Syntax.tyInt Syntax.w32) 3),
-    ) (List._∷_ (
-      11,
-      Rows'.any-gone (Syntax.tyRef Syntax.erased Syntax.mut (Syntax.tyArray (Syntax.tyArray (Syntax.tyInt
-          Syntax.w32) 3) 256)),
-    ) (List._∷_ (
+      Rows'.any-gone (Syntax.tyArray
+          (Syntax.tyInt Syntax.w32) 3),
+    ) (List._∷_ (11, Rows'.any-gone (Syntax.tyRef Syntax.erased Syntax.mut (Syntax.tyArray (Syntax.tyArray (Syntax.tyInt Syntax.w32) 3) 256)))
+    (List._∷_ (
       12,
-      Rows'.any-gone (Syntax.tyStruct (List._∷_ 38 (List._∷_ 91 (List._∷_ 93 List.[]))) (Syntax.tcons (Syntax.tyRef Syntax.erased Syntax.mut
-          (Syntax.tyArray (Syntax.tyInt Syntax.w32) 3)) (Syntax.tcons (Syntax.tyInt Syntax.w64) Syntax.tnil))),
+      Rows'.any-gone (Syntax.tyStruct (List._∷_ 38 (List._∷_ 91 (List._∷_ 93 List.[]))) (Syntax.tcons (Syntax.tyRef Syntax.erased Syntax.mut (Syntax.tyArray
+          (Syntax.tyInt Syntax.w32) 3)) (Syntax.tcons (Syntax.tyInt Syntax.w64) Syntax.tnil))),
+    ) (List._∷_ (13, Rows'.any-gone (Syntax.tyArray (Syntax.tyInt Syntax.w32) 3)) (List._∷_ (
+      14,
+      Rows'.any-gone (Syntax.tyRef Syntax.erased Syntax.mut (Syntax.tyArray (Syntax.tyArray (Syntax.tyInt Syntax.w32) 3) 4096)),
     ) (List._∷_ (
-      13,
-      Rows'.any-gone (Syntax.tyArray (Syntax.tyInt Syntax.w32)
-          3),
-    ) (List._∷_ (14, Rows'.any-gone (Syntax.tyRef Syntax.erased Syntax.mut (Syntax.tyArray (Syntax.tyArray (Syntax.tyInt Syntax.w32) 3) 4096))) (List._∷_ (
       15,
-      Rows'.any-gone
-          (Syntax.tyStruct (List._∷_ 38 (List._∷_ 91 (List._∷_ 93 List.[]))) (Syntax.tcons (Syntax.tyRef Syntax.erased Syntax.mut (Syntax.tyArray (Syntax.tyInt Syntax.w32) 3))
-          (Syntax.tcons (Syntax.tyInt Syntax.w64) Syntax.tnil))),
+      Rows'.any-gone (Syntax.tyStruct
+          (List._∷_ 38 (List._∷_ 91 (List._∷_ 93 List.[]))) (Syntax.tcons (Syntax.tyRef Syntax.erased Syntax.mut (Syntax.tyArray (Syntax.tyInt Syntax.w32) 3)) (Syntax.tcons (Syntax.tyInt
+          Syntax.w64) Syntax.tnil))),
     ) List.[])))))))))))))))
 
 abbrev pub t9 : List.List Row.Entry
 t9 = List._∷_ (0, Rows'.whole (Declared.row Answer.the-type)) (List._∷_ (
   1,
   Rows'.any-gone (Syntax.tyStruct (List._∷_ 103 (List._∷_ 114 (List._∷_ 101 (List._∷_ 101 (List._∷_ 110
-      (List._∷_ 119 (List._∷_ 97 (List._∷_ 108 (List._∷_ 100 (List._∷_ 95 (List._∷_ 107 (List._∷_ 104 (List._∷_ 97 (List._∷_ 110 (List._∷_ 110 (List._∷_ 97 (List._∷_ 58 (List._∷_ 58
-      (List._∷_ 83 (List._∷_ 116 (List._∷_ 114 (List._∷_ 101 (List._∷_ 97 (List._∷_ 109 List.[])))))))))))))))))))))))) (Syntax.tcons (Syntax.tyStruct (List._∷_ 102 (List._∷_ 114
-      (List._∷_ 97 (List._∷_ 99 (List._∷_ 116 (List._∷_ 105 (List._∷_ 111 (List._∷_ 110 (List._∷_ 58 (List._∷_ 58 (List._∷_ 70 (List._∷_ 114 (List._∷_ 97 (List._∷_ 99 (List._∷_ 116
-      (List._∷_ 105 (List._∷_ 111 (List._∷_ 110 List.[])))))))))))))))))) (Syntax.tcons (Syntax.tyInt Syntax.w32) (Syntax.tcons (Syntax.tyInt Syntax.w32) Syntax.tnil))) (Syntax.tcons
-      (Syntax.tyInt Syntax.w32) (Syntax.tcons (Syntax.tyInt Syntax.w32) Syntax.tnil)))),
-) (List._∷_ (2, Rows'.sslice Of.R (Syntax.tyRef (Syntax.named 0) Syntax.imm Of.tyBy) 0)
-    (List._∷_ (
-      3,
-      Rows'.any-gone (Syntax.tyEnum (List._∷_ 103 (List._∷_ 114 (List._∷_ 101 (List._∷_ 101 (List._∷_ 110 (List._∷_ 119 (List._∷_ 97 (List._∷_ 108 (List._∷_ 100
-          (List._∷_ 95 (List._∷_ 107 (List._∷_ 104 (List._∷_ 97 (List._∷_ 110 (List._∷_ 110 (List._∷_ 97 (List._∷_ 95 (List._∷_ 102 (List._∷_ 97 (List._∷_ 99 (List._∷_ 101 (List._∷_ 58
-          (List._∷_ 58 (List._∷_ 112 (List._∷_ 97 (List._∷_ 114 (List._∷_ 116 (List._∷_ 115 (List._∷_ 58 (List._∷_ 58 (List._∷_ 81 (List._∷_ 117 (List._∷_ 101 (List._∷_ 115 (List._∷_ 116
-          (List._∷_ 105 (List._∷_ 111 (List._∷_ 110 List.[])))))))))))))))))))))))))))))))))))))) (Syntax.ttcons (Syntax.tcons (Syntax.tyStruct (List._∷_ 102 (List._∷_ 114 (List._∷_ 97
-          (List._∷_ 99 (List._∷_ 116 (List._∷_ 105 (List._∷_ 111 (List._∷_ 110 (List._∷_ 58 (List._∷_ 58 (List._∷_ 70 (List._∷_ 114 (List._∷_ 97 (List._∷_ 99 (List._∷_ 116 (List._∷_ 105
-          (List._∷_ 111 (List._∷_ 110 List.[])))))))))))))))))) (Syntax.tcons (Syntax.tyInt Syntax.w32) (Syntax.tcons (Syntax.tyInt Syntax.w32) Syntax.tnil))) Syntax.tnil) (Syntax.ttcons
-          Syntax.tnil (Syntax.ttcons Syntax.tnil (Syntax.ttcons Syntax.tnil Syntax.ttnil))))),
-    ) (List._∷_ (4, Rows'.sc-here (Row.sInt Syntax.w64)) (List._∷_ (
-      5,
-      Rows'.any-gone
-          (Syntax.tyInt Syntax.w64),
-    ) (List._∷_ (6, Rows'.any-gone (Syntax.tyArray (Syntax.tyArray (Syntax.tyInt Syntax.w32) 3) 256)) (List._∷_ (
+      (List._∷_ 119 (List._∷_ 97 (List._∷_ 108 (List._∷_ 100 (List._∷_ 95 (List._∷_ 107 (List._∷_ 104 (List._∷_ 97 (List._∷_ 110 (List._∷_ 110 (List._∷_ 97 (List._∷_ 95 (List._∷_ 115
+      (List._∷_ 116 (List._∷_ 101 (List._∷_ 112 (List._∷_ 115 (List._∷_ 58 (List._∷_ 58 (List._∷_ 83 (List._∷_ 116 (List._∷_ 114 (List._∷_ 101 (List._∷_ 97 (List._∷_ 109
+      List.[])))))))))))))))))))))))))))))) (Syntax.tcons (Syntax.tyStruct (List._∷_ 102 (List._∷_ 114 (List._∷_ 97 (List._∷_ 99 (List._∷_ 116 (List._∷_ 105 (List._∷_ 111 (List._∷_
+      110 (List._∷_ 58 (List._∷_ 58 (List._∷_ 70 (List._∷_ 114 (List._∷_ 97 (List._∷_ 99 (List._∷_ 116 (List._∷_ 105 (List._∷_ 111 (List._∷_ 110 List.[]))))))))))))))))))
+      (Syntax.tcons (Syntax.tyInt Syntax.w32) (Syntax.tcons (Syntax.tyInt Syntax.w32) Syntax.tnil))) (Syntax.tcons (Syntax.tyInt Syntax.w32) (Syntax.tcons (Syntax.tyInt Syntax.w32)
+      Syntax.tnil)))),
+) (List._∷_ (2, Rows'.sslice Of.R (Syntax.tyRef (Syntax.named 0) Syntax.imm Of.tyBy) 0) (List._∷_ (
+  3,
+  Rows'.any-gone (Syntax.tyEnum (List._∷_ 103 (List._∷_
+      114 (List._∷_ 101 (List._∷_ 101 (List._∷_ 110 (List._∷_ 119 (List._∷_ 97 (List._∷_ 108 (List._∷_ 100 (List._∷_ 95 (List._∷_ 107 (List._∷_ 104 (List._∷_ 97 (List._∷_ 110
+      (List._∷_ 110 (List._∷_ 97 (List._∷_ 95 (List._∷_ 102 (List._∷_ 97 (List._∷_ 99 (List._∷_ 101 (List._∷_ 58 (List._∷_ 58 (List._∷_ 112 (List._∷_ 97 (List._∷_ 114 (List._∷_ 116
+      (List._∷_ 115 (List._∷_ 58 (List._∷_ 58 (List._∷_ 81 (List._∷_ 117 (List._∷_ 101 (List._∷_ 115 (List._∷_ 116 (List._∷_ 105 (List._∷_ 111 (List._∷_ 110
+      List.[])))))))))))))))))))))))))))))))))))))) (Syntax.ttcons (Syntax.tcons (Syntax.tyStruct (List._∷_ 102 (List._∷_ 114 (List._∷_ 97 (List._∷_ 99 (List._∷_ 116 (List._∷_ 105
+      (List._∷_ 111 (List._∷_ 110 (List._∷_ 58 (List._∷_ 58 (List._∷_ 70 (List._∷_ 114 (List._∷_ 97 (List._∷_ 99 (List._∷_ 116 (List._∷_ 105 (List._∷_ 111 (List._∷_ 110
+      List.[])))))))))))))))))) (Syntax.tcons (Syntax.tyInt Syntax.w32) (Syntax.tcons (Syntax.tyInt Syntax.w32) Syntax.tnil))) Syntax.tnil) (Syntax.ttcons Syntax.tnil (Syntax.ttcons
+      Syntax.tnil (Syntax.ttcons Syntax.tnil Syntax.ttnil))))),
+) (List._∷_ (4, Rows'.sc-here (Row.sInt Syntax.w64)) (List._∷_ (5, Rows'.any-gone (Syntax.tyInt Syntax.w64))
+    (List._∷_ (6, Rows'.any-gone (Syntax.tyArray (Syntax.tyArray (Syntax.tyInt Syntax.w32) 3) 256)) (List._∷_ (
       7,
-      Rows'.any-gone (Syntax.tyArray
-          (Syntax.tyArray (Syntax.tyInt Syntax.w32) 3) 4096),
+      Rows'.any-gone (Syntax.tyArray (Syntax.tyArray (Syntax.tyInt
+          Syntax.w32) 3) 4096),
     ) (List._∷_ (8, Rows'.any-gone Syntax.tyBool) (List._∷_ (
       9,
-      Rows'.any-gone (Syntax.tyEnum (List._∷_ 114 (List._∷_ 101
-          (List._∷_ 102 (List._∷_ 117 (List._∷_ 115 (List._∷_ 97 (List._∷_ 108 (List._∷_ 58 (List._∷_ 58 (List._∷_ 82 (List._∷_ 101 (List._∷_ 102 (List._∷_ 117 (List._∷_ 115 (List._∷_ 97
-          (List._∷_ 108 List.[])))))))))))))))) (Syntax.ttcons Syntax.tnil (Syntax.ttcons Syntax.tnil (Syntax.ttcons Syntax.tnil (Syntax.ttcons Syntax.tnil (Syntax.ttcons Syntax.tnil
-          (Syntax.ttcons Syntax.tnil (Syntax.ttcons Syntax.tnil (Syntax.ttcons Syntax.tnil (Syntax.ttcons Syntax.tnil (Syntax.ttcons Syntax.tnil (Syntax.ttcons Syntax.tnil (Syntax.ttcons
-          Syntax.tnil Syntax.ttnil))))))))))))),
+      Rows'.any-gone (Syntax.tyEnum (List._∷_ 114 (List._∷_ 101 (List._∷_ 102 (List._∷_ 117
+          (List._∷_ 115 (List._∷_ 97 (List._∷_ 108 (List._∷_ 58 (List._∷_ 58 (List._∷_ 82 (List._∷_ 101 (List._∷_ 102 (List._∷_ 117 (List._∷_ 115 (List._∷_ 97 (List._∷_ 108
+          List.[])))))))))))))))) (Syntax.ttcons Syntax.tnil (Syntax.ttcons Syntax.tnil (Syntax.ttcons Syntax.tnil (Syntax.ttcons Syntax.tnil (Syntax.ttcons Syntax.tnil (Syntax.ttcons
+          Syntax.tnil (Syntax.ttcons Syntax.tnil (Syntax.ttcons Syntax.tnil (Syntax.ttcons Syntax.tnil (Syntax.ttcons Syntax.tnil (Syntax.ttcons Syntax.tnil (Syntax.ttcons Syntax.tnil
+          Syntax.ttnil))))))))))))),
     ) (List._∷_ (10, Rows'.any-gone (Syntax.tyArray (Syntax.tyInt Syntax.w32) 3)) (List._∷_ (
       11,
-      Rows'.any-gone (Syntax.tyRef Syntax.erased
-          Syntax.mut (Syntax.tyArray (Syntax.tyArray (Syntax.tyInt Syntax.w32) 3) 256)),
+      Rows'.any-gone (Syntax.tyRef Syntax.erased Syntax.mut
+          (Syntax.tyArray (Syntax.tyArray (Syntax.tyInt Syntax.w32) 3) 256)),
     ) (List._∷_ (
       12,
-      Rows'.any-gone (Syntax.tyStruct (List._∷_ 38 (List._∷_ 91 (List._∷_ 93
-          List.[]))) (Syntax.tcons (Syntax.tyRef Syntax.erased Syntax.mut (Syntax.tyArray (Syntax.tyInt Syntax.w32) 3)) (Syntax.tcons (Syntax.tyInt Syntax.w64) Syntax.tnil))),
-    )
-    (List._∷_ (13, Rows'.any-gone (Syntax.tyArray (Syntax.tyInt Syntax.w32) 3)) (List._∷_ (
+      Rows'.any-gone (Syntax.tyStruct (List._∷_ 38 (List._∷_ 91 (List._∷_ 93 List.[])))
+          (Syntax.tcons (Syntax.tyRef Syntax.erased Syntax.mut (Syntax.tyArray (Syntax.tyInt Syntax.w32) 3)) (Syntax.tcons (Syntax.tyInt Syntax.w64) Syntax.tnil))),
+    ) (List._∷_ (
+      13,
+      Rows'.any-gone (Syntax.tyArray (Syntax.tyInt Syntax.w32) 3),
+    ) (List._∷_ (
       14,
-      Rows'.any-gone (Syntax.tyRef Syntax.erased Syntax.mut (Syntax.tyArray
-          (Syntax.tyArray (Syntax.tyInt Syntax.w32) 3) 4096)),
+      Rows'.any-gone (Syntax.tyRef Syntax.erased Syntax.mut (Syntax.tyArray (Syntax.tyArray (Syntax.tyInt
+          Syntax.w32) 3) 4096)),
     ) (List._∷_ (
       15,
-      Rows'.any-gone (Syntax.tyStruct (List._∷_ 38 (List._∷_ 91 (List._∷_ 93 List.[]))) (Syntax.tcons
-          (Syntax.tyRef Syntax.erased Syntax.mut (Syntax.tyArray (Syntax.tyInt Syntax.w32) 3)) (Syntax.tcons (Syntax.tyInt Syntax.w64) Syntax.tnil))),
+      Rows'.any-gone (Syntax.tyStruct (List._∷_ 38 (List._∷_ 91 (List._∷_ 93 List.[]))) (Syntax.tcons (Syntax.tyRef Syntax.erased Syntax.mut
+          (Syntax.tyArray (Syntax.tyInt Syntax.w32) 3)) (Syntax.tcons (Syntax.tyInt Syntax.w64) Syntax.tnil))),
     ) List.[])))))))))))))))
 
 abbrev pub t10 : List.List Row.Entry
@@ -1341,16 +1338,62 @@ abbrev pub t20 : List.List Row.Entry
 t20 = List._∷_ (0, Rows'.whole (Declared.row Answer.the-type)) (List._∷_ (
   1,
   Rows'.any-gone (Syntax.tyStruct (List._∷_ 103 (List._∷_ 114 (List._∷_ 101 (List._∷_ 101 (List._∷_ 110
-      (List._∷_ 119 (List._∷_ 97 (List._∷_ 108 (List._∷_ 100 (List._∷_ 95 (List._∷_ 107 (List._∷_ 104 (List._∷_ 97 (List._∷_ 110 (List._∷_ 110 (List._∷_ 97 (List._∷_ 58 (List._∷_ 58
-      (List._∷_ 83 (List._∷_ 116 (List._∷_ 114 (List._∷_ 101 (List._∷_ 97 (List._∷_ 109 List.[])))))))))))))))))))))))) (Syntax.tcons (Syntax.tyStruct (List._∷_ 102 (List._∷_ 114
-      (List._∷_ 97 (List._∷_ 99 (List._∷_ 116 (List._∷_ 105 (List._∷_ 111 (List._∷_ 110 (List._∷_ 58 (List._∷_ 58 (List._∷_ 70 (List._∷_ 114 (List._∷_ 97 (List._∷_ 99 (List._∷_ 116
-      (List._∷_ 105 (List._∷_ 111 (List._∷_ 110 List.[])))))))))))))))))) (Syntax.tcons (Syntax.tyInt Syntax.w32) (Syntax.tcons (Syntax.tyInt Syntax.w32) Syntax.tnil))) (Syntax.tcons
-      (Syntax.tyInt Syntax.w32) (Syntax.tcons (Syntax.tyInt Syntax.w32) Syntax.tnil)))),
-) (List._∷_ (2, Rows'.sslice Of.R (Syntax.tyRef (Syntax.named 0) Syntax.imm Of.tyBy) 0)
-    (List._∷_ (3, Rows'.whole (Declared.row Question.the-type)) (List._∷_ (4, Rows'.sc-here (Row.sInt Syntax.w64)) (List._∷_ (5, Rows'.sc-here (Row.sInt Syntax.w64)) (List._∷_ (
+      (List._∷_ 119 (List._∷_ 97 (List._∷_ 108 (List._∷_ 100 (List._∷_ 95 (List._∷_ 107 (List._∷_ 104 (List._∷_ 97 (List._∷_ 110 (List._∷_ 110 (List._∷_ 97 (List._∷_ 95 (List._∷_ 115
+      (List._∷_ 116 (List._∷_ 101 (List._∷_ 112 (List._∷_ 115 (List._∷_ 58 (List._∷_ 58 (List._∷_ 83 (List._∷_ 116 (List._∷_ 114 (List._∷_ 101 (List._∷_ 97 (List._∷_ 109
+      List.[])))))))))))))))))))))))))))))) (Syntax.tcons (Syntax.tyStruct (List._∷_ 102 (List._∷_ 114 (List._∷_ 97 (List._∷_ 99 (List._∷_ 116 (List._∷_ 105 (List._∷_ 111 (List._∷_
+      110 (List._∷_ 58 (List._∷_ 58 (List._∷_ 70 (List._∷_ 114 (List._∷_ 97 (List._∷_ 99 (List._∷_ 116 (List._∷_ 105 (List._∷_ 111 (List._∷_ 110 List.[]))))))))))))))))))
+      (Syntax.tcons (Syntax.tyInt Syntax.w32) (Syntax.tcons (Syntax.tyInt Syntax.w32) Syntax.tnil))) (Syntax.tcons (Syntax.tyInt Syntax.w32) (Syntax.tcons (Syntax.tyInt Syntax.w32)
+      Syntax.tnil)))),
+) (List._∷_ (2, Rows'.sslice Of.R (Syntax.tyRef (Syntax.named 0) Syntax.imm Of.tyBy) 0) (List._∷_ (3, Rows'.whole (Declared.row Question.the-type))
+    (List._∷_ (4, Rows'.sc-here (Row.sInt Syntax.w64)) (List._∷_ (5, Rows'.sc-here (Row.sInt Syntax.w64)) (List._∷_ (
       6,
-      Rows.arr-owed (Array'.Array (Referent.rtF (Referent.fInt Syntax.w32)) 3) 256 1,
+      Rows.arr-owed (Array'.Array (Referent.rtF (Referent.fInt
+          Syntax.w32)) 3) 256 1,
+    ) (List._∷_ (7, Rows'.any-gone (Syntax.tyArray (Syntax.tyArray (Syntax.tyInt Syntax.w32) 3) 4096)) (List._∷_ (8, Rows'.any-gone Syntax.tyBool)
+    (List._∷_ (
+      9,
+      Rows'.any-gone (Syntax.tyEnum (List._∷_ 114 (List._∷_ 101 (List._∷_ 102 (List._∷_ 117 (List._∷_ 115 (List._∷_ 97 (List._∷_ 108 (List._∷_ 58 (List._∷_ 58
+          (List._∷_ 82 (List._∷_ 101 (List._∷_ 102 (List._∷_ 117 (List._∷_ 115 (List._∷_ 97 (List._∷_ 108 List.[])))))))))))))))) (Syntax.ttcons Syntax.tnil (Syntax.ttcons Syntax.tnil
+          (Syntax.ttcons Syntax.tnil (Syntax.ttcons Syntax.tnil (Syntax.ttcons Syntax.tnil (Syntax.ttcons Syntax.tnil (Syntax.ttcons Syntax.tnil (Syntax.ttcons Syntax.tnil (Syntax.ttcons
+          Syntax.tnil (Syntax.ttcons Syntax.tnil (Syntax.ttcons Syntax.tnil (Syntax.ttcons Syntax.tnil Syntax.ttnil))))))))))))),
     ) (List._∷_ (
+      10,
+      Rows'.any-gone (Syntax.tyArray
+          (Syntax.tyInt Syntax.w32) 3),
+    ) (List._∷_ (11, Rows'.any-gone (Syntax.tyRef Syntax.erased Syntax.mut (Syntax.tyArray (Syntax.tyArray (Syntax.tyInt Syntax.w32) 3) 256)))
+    (List._∷_ (12, Mut.msleft (Array'.Array (Referent.rtF (Referent.fInt Syntax.w32)) 3) (Syntax.tyRef Syntax.erased Syntax.mut (Syntax.tyArray (Syntax.tyInt Syntax.w32) 3)))
+    (List._∷_ (13, Rows'.any-gone (Syntax.tyArray (Syntax.tyInt Syntax.w32) 3)) (List._∷_ (
+      14,
+      Rows'.any-gone (Syntax.tyRef Syntax.erased Syntax.mut (Syntax.tyArray
+          (Syntax.tyArray (Syntax.tyInt Syntax.w32) 3) 4096)),
+    ) (List._∷_ (
+      15,
+      Rows'.any-gone (Syntax.tyStruct (List._∷_ 38 (List._∷_ 91 (List._∷_ 93 List.[]))) (Syntax.tcons
+          (Syntax.tyRef Syntax.erased Syntax.mut (Syntax.tyArray (Syntax.tyInt Syntax.w32) 3)) (Syntax.tcons (Syntax.tyInt Syntax.w64) Syntax.tnil))),
+    ) List.[])))))))))))))))
+
+abbrev pub t21 : List.List Row.Entry
+t21 = List._∷_ (0, Rows'.whole (Declared.row Answer.the-type)) (List._∷_ (
+  1,
+  Rows'.any-gone (Syntax.tyStruct (List._∷_ 103 (List._∷_ 114 (List._∷_ 101 (List._∷_ 101 (List._∷_ 110
+      (List._∷_ 119 (List._∷_ 97 (List._∷_ 108 (List._∷_ 100 (List._∷_ 95 (List._∷_ 107 (List._∷_ 104 (List._∷_ 97 (List._∷_ 110 (List._∷_ 110 (List._∷_ 97 (List._∷_ 95 (List._∷_ 115
+      (List._∷_ 116 (List._∷_ 101 (List._∷_ 112 (List._∷_ 115 (List._∷_ 58 (List._∷_ 58 (List._∷_ 83 (List._∷_ 116 (List._∷_ 114 (List._∷_ 101 (List._∷_ 97 (List._∷_ 109
+      List.[])))))))))))))))))))))))))))))) (Syntax.tcons (Syntax.tyStruct (List._∷_ 102 (List._∷_ 114 (List._∷_ 97 (List._∷_ 99 (List._∷_ 116 (List._∷_ 105 (List._∷_ 111 (List._∷_
+      110 (List._∷_ 58 (List._∷_ 58 (List._∷_ 70 (List._∷_ 114 (List._∷_ 97 (List._∷_ 99 (List._∷_ 116 (List._∷_ 105 (List._∷_ 111 (List._∷_ 110 List.[]))))))))))))))))))
+      (Syntax.tcons (Syntax.tyInt Syntax.w32) (Syntax.tcons (Syntax.tyInt Syntax.w32) Syntax.tnil))) (Syntax.tcons (Syntax.tyInt Syntax.w32) (Syntax.tcons (Syntax.tyInt Syntax.w32)
+      Syntax.tnil)))),
+) (List._∷_ (2, Rows'.sslice Of.R (Syntax.tyRef (Syntax.named 0) Syntax.imm Of.tyBy) 0) (List._∷_ (
+  3,
+  Rows'.any-gone (Syntax.tyEnum (List._∷_ 103 (List._∷_
+      114 (List._∷_ 101 (List._∷_ 101 (List._∷_ 110 (List._∷_ 119 (List._∷_ 97 (List._∷_ 108 (List._∷_ 100 (List._∷_ 95 (List._∷_ 107 (List._∷_ 104 (List._∷_ 97 (List._∷_ 110
+      (List._∷_ 110 (List._∷_ 97 (List._∷_ 95 (List._∷_ 102 (List._∷_ 97 (List._∷_ 99 (List._∷_ 101 (List._∷_ 58 (List._∷_ 58 (List._∷_ 112 (List._∷_ 97 (List._∷_ 114 (List._∷_ 116
+      (List._∷_ 115 (List._∷_ 58 (List._∷_ 58 (List._∷_ 81 (List._∷_ 117 (List._∷_ 101 (List._∷_ 115 (List._∷_ 116 (List._∷_ 105 (List._∷_ 111 (List._∷_ 110
+      List.[])))))))))))))))))))))))))))))))))))))) (Syntax.ttcons (Syntax.tcons (Syntax.tyStruct (List._∷_ 102 (List._∷_ 114 (List._∷_ 97 (List._∷_ 99 (List._∷_ 116 (List._∷_ 105
+      (List._∷_ 111 (List._∷_ 110 (List._∷_ 58 (List._∷_ 58 (List._∷_ 70 (List._∷_ 114 (List._∷_ 97 (List._∷_ 99 (List._∷_ 116 (List._∷_ 105 (List._∷_ 111 (List._∷_ 110
+      List.[])))))))))))))))))) (Syntax.tcons (Syntax.tyInt Syntax.w32) (Syntax.tcons (Syntax.tyInt Syntax.w32) Syntax.tnil))) Syntax.tnil) (Syntax.ttcons Syntax.tnil (Syntax.ttcons
+      Syntax.tnil (Syntax.ttcons Syntax.tnil Syntax.ttnil))))),
+) (List._∷_ (4, Rows'.sc-here (Row.sInt Syntax.w64)) (List._∷_ (5, Rows'.sc-here (Row.sInt Syntax.w64)) (List._∷_
+    (6, Rows.arr-owed (Array'.Array (Referent.rtF (Referent.fInt Syntax.w32)) 3) 256 1) (List._∷_ (
       7,
       Rows'.any-gone (Syntax.tyArray (Syntax.tyArray (Syntax.tyInt Syntax.w32) 3)
           4096),
@@ -1380,144 +1423,145 @@ t20 = List._∷_ (0, Rows'.whole (Declared.row Answer.the-type)) (List._∷_ (
           Syntax.tnil))),
     ) List.[])))))))))))))))
 
-abbrev pub t21 : List.List Row.Entry
-t21 = List._∷_ (0, Rows'.whole (Declared.row Answer.the-type)) (List._∷_ (
-  1,
-  Rows'.any-gone (Syntax.tyStruct (List._∷_ 103 (List._∷_ 114 (List._∷_ 101 (List._∷_ 101 (List._∷_ 110
-      (List._∷_ 119 (List._∷_ 97 (List._∷_ 108 (List._∷_ 100 (List._∷_ 95 (List._∷_ 107 (List._∷_ 104 (List._∷_ 97 (List._∷_ 110 (List._∷_ 110 (List._∷_ 97 (List._∷_ 58 (List._∷_ 58
-      (List._∷_ 83 (List._∷_ 116 (List._∷_ 114 (List._∷_ 101 (List._∷_ 97 (List._∷_ 109 List.[])))))))))))))))))))))))) (Syntax.tcons (Syntax.tyStruct (List._∷_ 102 (List._∷_ 114
-      (List._∷_ 97 (List._∷_ 99 (List._∷_ 116 (List._∷_ 105 (List._∷_ 111 (List._∷_ 110 (List._∷_ 58 (List._∷_ 58 (List._∷_ 70 (List._∷_ 114 (List._∷_ 97 (List._∷_ 99 (List._∷_ 116
-      (List._∷_ 105 (List._∷_ 111 (List._∷_ 110 List.[])))))))))))))))))) (Syntax.tcons (Syntax.tyInt Syntax.w32) (Syntax.tcons (Syntax.tyInt Syntax.w32) Syntax.tnil))) (Syntax.tcons
-      (Syntax.tyInt Syntax.w32) (Syntax.tcons (Syntax.tyInt Syntax.w32) Syntax.tnil)))),
-) (List._∷_ (2, Rows'.sslice Of.R (Syntax.tyRef (Syntax.named 0) Syntax.imm Of.tyBy) 0)
-    (List._∷_ (
-      3,
-      Rows'.any-gone (Syntax.tyEnum (List._∷_ 103 (List._∷_ 114 (List._∷_ 101 (List._∷_ 101 (List._∷_ 110 (List._∷_ 119 (List._∷_ 97 (List._∷_ 108 (List._∷_ 100
-          (List._∷_ 95 (List._∷_ 107 (List._∷_ 104 (List._∷_ 97 (List._∷_ 110 (List._∷_ 110 (List._∷_ 97 (List._∷_ 95 (List._∷_ 102 (List._∷_ 97 (List._∷_ 99 (List._∷_ 101 (List._∷_ 58
-          (List._∷_ 58 (List._∷_ 112 (List._∷_ 97 (List._∷_ 114 (List._∷_ 116 (List._∷_ 115 (List._∷_ 58 (List._∷_ 58 (List._∷_ 81 (List._∷_ 117 (List._∷_ 101 (List._∷_ 115 (List._∷_ 116
-          (List._∷_ 105 (List._∷_ 111 (List._∷_ 110 List.[])))))))))))))))))))))))))))))))))))))) (Syntax.ttcons (Syntax.tcons (Syntax.tyStruct (List._∷_ 102 (List._∷_ 114 (List._∷_ 97
-          (List._∷_ 99 (List._∷_ 116 (List._∷_ 105 (List._∷_ 111 (List._∷_ 110 (List._∷_ 58 (List._∷_ 58 (List._∷_ 70 (List._∷_ 114 (List._∷_ 97 (List._∷_ 99 (List._∷_ 116 (List._∷_ 105
-          (List._∷_ 111 (List._∷_ 110 List.[])))))))))))))))))) (Syntax.tcons (Syntax.tyInt Syntax.w32) (Syntax.tcons (Syntax.tyInt Syntax.w32) Syntax.tnil))) Syntax.tnil) (Syntax.ttcons
-          Syntax.tnil (Syntax.ttcons Syntax.tnil (Syntax.ttcons Syntax.tnil Syntax.ttnil))))),
-    ) (List._∷_ (4, Rows'.sc-here (Row.sInt Syntax.w64)) (List._∷_ (
-      5,
-      Rows'.sc-here (Row.sInt
-          Syntax.w64),
-    ) (List._∷_ (6, Rows.arr-owed (Array'.Array (Referent.rtF (Referent.fInt Syntax.w32)) 3) 256 1) (List._∷_ (
-      7,
-      Rows'.any-gone (Syntax.tyArray (Syntax.tyArray
-          (Syntax.tyInt Syntax.w32) 3) 4096),
-    ) (List._∷_ (8, Rows'.any-gone Syntax.tyBool) (List._∷_ (
-      9,
-      Rows'.any-gone (Syntax.tyEnum (List._∷_ 114 (List._∷_ 101 (List._∷_ 102
-          (List._∷_ 117 (List._∷_ 115 (List._∷_ 97 (List._∷_ 108 (List._∷_ 58 (List._∷_ 58 (List._∷_ 82 (List._∷_ 101 (List._∷_ 102 (List._∷_ 117 (List._∷_ 115 (List._∷_ 97 (List._∷_ 108
-          List.[])))))))))))))))) (Syntax.ttcons Syntax.tnil (Syntax.ttcons Syntax.tnil (Syntax.ttcons Syntax.tnil (Syntax.ttcons Syntax.tnil (Syntax.ttcons Syntax.tnil (Syntax.ttcons
-          Syntax.tnil (Syntax.ttcons Syntax.tnil (Syntax.ttcons Syntax.tnil (Syntax.ttcons Syntax.tnil (Syntax.ttcons Syntax.tnil (Syntax.ttcons Syntax.tnil (Syntax.ttcons Syntax.tnil
-          Syntax.ttnil))))))))))))),
-    ) (List._∷_ (10, Rows'.any-gone (Syntax.tyArray (Syntax.tyInt Syntax.w32) 3)) (List._∷_ (
-      11,
-      Rows'.any-gone (Syntax.tyRef Syntax.erased Syntax.mut
-          (Syntax.tyArray (Syntax.tyArray (Syntax.tyInt Syntax.w32) 3) 256)),
-    ) (List._∷_ (
-      12,
-      Mut.msleft (Array'.Array (Referent.rtF (Referent.fInt Syntax.w32)) 3) (Syntax.tyRef
-          Syntax.erased Syntax.mut (Syntax.tyArray (Syntax.tyInt Syntax.w32) 3)),
-    ) (List._∷_ (13, Rows'.any-gone (Syntax.tyArray (Syntax.tyInt Syntax.w32) 3)) (List._∷_ (
-      14,
-      Rows'.any-gone (Syntax.tyRef Syntax.erased Syntax.mut (Syntax.tyArray (Syntax.tyArray (Syntax.tyInt Syntax.w32) 3) 4096)),
-    ) (List._∷_ (
-      15,
-      Rows'.any-gone (Syntax.tyStruct
-          (List._∷_ 38 (List._∷_ 91 (List._∷_ 93 List.[]))) (Syntax.tcons (Syntax.tyRef Syntax.erased Syntax.mut (Syntax.tyArray (Syntax.tyInt Syntax.w32) 3)) (Syntax.tcons (Syntax.tyInt
-          Syntax.w64) Syntax.tnil))),
-    ) List.[])))))))))))))))
-
 abbrev pub t22 : List.List Row.Entry
 t22 = List._∷_ (0, Rows'.whole (Declared.row Answer.the-type)) (List._∷_ (
   1,
   Rows'.any-gone (Syntax.tyStruct (List._∷_ 103 (List._∷_ 114 (List._∷_ 101 (List._∷_ 101 (List._∷_ 110
-      (List._∷_ 119 (List._∷_ 97 (List._∷_ 108 (List._∷_ 100 (List._∷_ 95 (List._∷_ 107 (List._∷_ 104 (List._∷_ 97 (List._∷_ 110 (List._∷_ 110 (List._∷_ 97 (List._∷_ 58 (List._∷_ 58
-      (List._∷_ 83 (List._∷_ 116 (List._∷_ 114 (List._∷_ 101 (List._∷_ 97 (List._∷_ 109 List.[])))))))))))))))))))))))) (Syntax.tcons (Syntax.tyStruct (List._∷_ 102 (List._∷_ 114
-      (List._∷_ 97 (List._∷_ 99 (List._∷_ 116 (List._∷_ 105 (List._∷_ 111 (List._∷_ 110 (List._∷_ 58 (List._∷_ 58 (List._∷_ 70 (List._∷_ 114 (List._∷_ 97 (List._∷_ 99 (List._∷_ 116
-      (List._∷_ 105 (List._∷_ 111 (List._∷_ 110 List.[])))))))))))))))))) (Syntax.tcons (Syntax.tyInt Syntax.w32) (Syntax.tcons (Syntax.tyInt Syntax.w32) Syntax.tnil))) (Syntax.tcons
-      (Syntax.tyInt Syntax.w32) (Syntax.tcons (Syntax.tyInt Syntax.w32) Syntax.tnil)))),
-) (List._∷_ (2, Rows'.sslice Of.R (Syntax.tyRef (Syntax.named 0) Syntax.imm Of.tyBy) 0)
-    (List._∷_ (
-      3,
-      Rows'.any-gone (Syntax.tyEnum (List._∷_ 103 (List._∷_ 114 (List._∷_ 101 (List._∷_ 101 (List._∷_ 110 (List._∷_ 119 (List._∷_ 97 (List._∷_ 108 (List._∷_ 100
-          (List._∷_ 95 (List._∷_ 107 (List._∷_ 104 (List._∷_ 97 (List._∷_ 110 (List._∷_ 110 (List._∷_ 97 (List._∷_ 95 (List._∷_ 102 (List._∷_ 97 (List._∷_ 99 (List._∷_ 101 (List._∷_ 58
-          (List._∷_ 58 (List._∷_ 112 (List._∷_ 97 (List._∷_ 114 (List._∷_ 116 (List._∷_ 115 (List._∷_ 58 (List._∷_ 58 (List._∷_ 81 (List._∷_ 117 (List._∷_ 101 (List._∷_ 115 (List._∷_ 116
-          (List._∷_ 105 (List._∷_ 111 (List._∷_ 110 List.[])))))))))))))))))))))))))))))))))))))) (Syntax.ttcons (Syntax.tcons (Syntax.tyStruct (List._∷_ 102 (List._∷_ 114 (List._∷_ 97
-          (List._∷_ 99 (List._∷_ 116 (List._∷_ 105 (List._∷_ 111 (List._∷_ 110 (List._∷_ 58 (List._∷_ 58 (List._∷_ 70 (List._∷_ 114 (List._∷_ 97 (List._∷_ 99 (List._∷_ 116 (List._∷_ 105
-          (List._∷_ 111 (List._∷_ 110 List.[])))))))))))))))))) (Syntax.tcons (Syntax.tyInt Syntax.w32) (Syntax.tcons (Syntax.tyInt Syntax.w32) Syntax.tnil))) Syntax.tnil) (Syntax.ttcons
-          Syntax.tnil (Syntax.ttcons Syntax.tnil (Syntax.ttcons Syntax.tnil Syntax.ttnil))))),
-    ) (List._∷_ (4, Rows'.sc-here (Row.sInt Syntax.w64)) (List._∷_ (
-      5,
-      Rows'.sc-here (Row.sInt
-          Syntax.w64),
-    ) (List._∷_ (6, Rows.arrF (Array'.Array (Referent.rtF (Referent.fInt Syntax.w32)) 3) 256 0) (List._∷_ (
+      (List._∷_ 119 (List._∷_ 97 (List._∷_ 108 (List._∷_ 100 (List._∷_ 95 (List._∷_ 107 (List._∷_ 104 (List._∷_ 97 (List._∷_ 110 (List._∷_ 110 (List._∷_ 97 (List._∷_ 95 (List._∷_ 115
+      (List._∷_ 116 (List._∷_ 101 (List._∷_ 112 (List._∷_ 115 (List._∷_ 58 (List._∷_ 58 (List._∷_ 83 (List._∷_ 116 (List._∷_ 114 (List._∷_ 101 (List._∷_ 97 (List._∷_ 109
+      List.[])))))))))))))))))))))))))))))) (Syntax.tcons (Syntax.tyStruct (List._∷_ 102 (List._∷_ 114 (List._∷_ 97 (List._∷_ 99 (List._∷_ 116 (List._∷_ 105 (List._∷_ 111 (List._∷_
+      110 (List._∷_ 58 (List._∷_ 58 (List._∷_ 70 (List._∷_ 114 (List._∷_ 97 (List._∷_ 99 (List._∷_ 116 (List._∷_ 105 (List._∷_ 111 (List._∷_ 110 List.[]))))))))))))))))))
+      (Syntax.tcons (Syntax.tyInt Syntax.w32) (Syntax.tcons (Syntax.tyInt Syntax.w32) Syntax.tnil))) (Syntax.tcons (Syntax.tyInt Syntax.w32) (Syntax.tcons (Syntax.tyInt Syntax.w32)
+      Syntax.tnil)))),
+) (List._∷_ (2, Rows'.sslice Of.R (Syntax.tyRef (Syntax.named 0) Syntax.imm Of.tyBy) 0) (List._∷_ (
+  3,
+  Rows'.any-gone (Syntax.tyEnum (List._∷_ 103 (List._∷_
+      114 (List._∷_ 101 (List._∷_ 101 (List._∷_ 110 (List._∷_ 119 (List._∷_ 97 (List._∷_ 108 (List._∷_ 100 (List._∷_ 95 (List._∷_ 107 (List._∷_ 104 (List._∷_ 97 (List._∷_ 110
+      (List._∷_ 110 (List._∷_ 97 (List._∷_ 95 (List._∷_ 102 (List._∷_ 97 (List._∷_ 99 (List._∷_ 101 (List._∷_ 58 (List._∷_ 58 (List._∷_ 112 (List._∷_ 97 (List._∷_ 114 (List._∷_ 116
+      (List._∷_ 115 (List._∷_ 58 (List._∷_ 58 (List._∷_ 81 (List._∷_ 117 (List._∷_ 101 (List._∷_ 115 (List._∷_ 116 (List._∷_ 105 (List._∷_ 111 (List._∷_ 110
+      List.[])))))))))))))))))))))))))))))))))))))) (Syntax.ttcons (Syntax.tcons (Syntax.tyStruct (List._∷_ 102 (List._∷_ 114 (List._∷_ 97 (List._∷_ 99 (List._∷_ 116 (List._∷_ 105
+      (List._∷_ 111 (List._∷_ 110 (List._∷_ 58 (List._∷_ 58 (List._∷_ 70 (List._∷_ 114 (List._∷_ 97 (List._∷_ 99 (List._∷_ 116 (List._∷_ 105 (List._∷_ 111 (List._∷_ 110
+      List.[])))))))))))))))))) (Syntax.tcons (Syntax.tyInt Syntax.w32) (Syntax.tcons (Syntax.tyInt Syntax.w32) Syntax.tnil))) Syntax.tnil) (Syntax.ttcons Syntax.tnil (Syntax.ttcons
+      Syntax.tnil (Syntax.ttcons Syntax.tnil Syntax.ttnil))))),
+) (List._∷_ (4, Rows'.sc-here (Row.sInt Syntax.w64)) (List._∷_ (5, Rows'.sc-here (Row.sInt Syntax.w64)) (List._∷_
+    (6, Rows.arrF (Array'.Array (Referent.rtF (Referent.fInt Syntax.w32)) 3) 256 0) (List._∷_ (
       7,
-      Rows'.any-gone (Syntax.tyArray (Syntax.tyArray
-          (Syntax.tyInt Syntax.w32) 3) 4096),
+      Rows'.any-gone (Syntax.tyArray (Syntax.tyArray (Syntax.tyInt Syntax.w32) 3)
+          4096),
     ) (List._∷_ (8, Rows'.any-gone Syntax.tyBool) (List._∷_ (
       9,
-      Rows'.any-gone (Syntax.tyEnum (List._∷_ 114 (List._∷_ 101 (List._∷_ 102
-          (List._∷_ 117 (List._∷_ 115 (List._∷_ 97 (List._∷_ 108 (List._∷_ 58 (List._∷_ 58 (List._∷_ 82 (List._∷_ 101 (List._∷_ 102 (List._∷_ 117 (List._∷_ 115 (List._∷_ 97 (List._∷_ 108
-          List.[])))))))))))))))) (Syntax.ttcons Syntax.tnil (Syntax.ttcons Syntax.tnil (Syntax.ttcons Syntax.tnil (Syntax.ttcons Syntax.tnil (Syntax.ttcons Syntax.tnil (Syntax.ttcons
-          Syntax.tnil (Syntax.ttcons Syntax.tnil (Syntax.ttcons Syntax.tnil (Syntax.ttcons Syntax.tnil (Syntax.ttcons Syntax.tnil (Syntax.ttcons Syntax.tnil (Syntax.ttcons Syntax.tnil
-          Syntax.ttnil))))))))))))),
-    ) (List._∷_ (10, Rows'.any-gone (Syntax.tyArray (Syntax.tyInt Syntax.w32) 3)) (List._∷_ (
+      Rows'.any-gone (Syntax.tyEnum (List._∷_ 114 (List._∷_ 101 (List._∷_ 102 (List._∷_ 117 (List._∷_ 115
+          (List._∷_ 97 (List._∷_ 108 (List._∷_ 58 (List._∷_ 58 (List._∷_ 82 (List._∷_ 101 (List._∷_ 102 (List._∷_ 117 (List._∷_ 115 (List._∷_ 97 (List._∷_ 108 List.[]))))))))))))))))
+          (Syntax.ttcons Syntax.tnil (Syntax.ttcons Syntax.tnil (Syntax.ttcons Syntax.tnil (Syntax.ttcons Syntax.tnil (Syntax.ttcons Syntax.tnil (Syntax.ttcons Syntax.tnil (Syntax.ttcons
+          Syntax.tnil (Syntax.ttcons Syntax.tnil (Syntax.ttcons Syntax.tnil (Syntax.ttcons Syntax.tnil (Syntax.ttcons Syntax.tnil (Syntax.ttcons Syntax.tnil Syntax.ttnil))))))))))))),
+    )
+    (List._∷_ (10, Rows'.any-gone (Syntax.tyArray (Syntax.tyInt Syntax.w32) 3)) (List._∷_ (
       11,
-      Rows'.any-gone (Syntax.tyRef Syntax.erased Syntax.mut
-          (Syntax.tyArray (Syntax.tyArray (Syntax.tyInt Syntax.w32) 3) 256)),
+      Rows'.any-gone (Syntax.tyRef Syntax.erased Syntax.mut (Syntax.tyArray
+          (Syntax.tyArray (Syntax.tyInt Syntax.w32) 3) 256)),
     ) (List._∷_ (
       12,
-      Rows'.any-gone (Syntax.tyStruct (List._∷_ 38 (List._∷_ 91 (List._∷_ 93 List.[])))
-          (Syntax.tcons (Syntax.tyRef Syntax.erased Syntax.mut (Syntax.tyArray (Syntax.tyInt Syntax.w32) 3)) (Syntax.tcons (Syntax.tyInt Syntax.w64) Syntax.tnil))),
+      Rows'.any-gone (Syntax.tyStruct (List._∷_ 38 (List._∷_ 91 (List._∷_ 93 List.[]))) (Syntax.tcons
+          (Syntax.tyRef Syntax.erased Syntax.mut (Syntax.tyArray (Syntax.tyInt Syntax.w32) 3)) (Syntax.tcons (Syntax.tyInt Syntax.w64) Syntax.tnil))),
     ) (List._∷_ (
       13,
-      Rows'.any-gone (Syntax.tyArray (Syntax.tyInt Syntax.w32) 3),
+      Rows'.any-gone
+          (Syntax.tyArray (Syntax.tyInt Syntax.w32) 3),
     ) (List._∷_ (
       14,
-      Rows'.any-gone (Syntax.tyRef Syntax.erased Syntax.mut (Syntax.tyArray (Syntax.tyArray (Syntax.tyInt
-          Syntax.w32) 3) 4096)),
+      Rows'.any-gone (Syntax.tyRef Syntax.erased Syntax.mut (Syntax.tyArray (Syntax.tyArray (Syntax.tyInt Syntax.w32) 3)
+          4096)),
     ) (List._∷_ (
       15,
-      Rows'.any-gone (Syntax.tyStruct (List._∷_ 38 (List._∷_ 91 (List._∷_ 93 List.[]))) (Syntax.tcons (Syntax.tyRef Syntax.erased Syntax.mut
-          (Syntax.tyArray (Syntax.tyInt Syntax.w32) 3)) (Syntax.tcons (Syntax.tyInt Syntax.w64) Syntax.tnil))),
+      Rows'.any-gone (Syntax.tyStruct (List._∷_ 38 (List._∷_ 91 (List._∷_ 93 List.[]))) (Syntax.tcons (Syntax.tyRef Syntax.erased Syntax.mut (Syntax.tyArray
+          (Syntax.tyInt Syntax.w32) 3)) (Syntax.tcons (Syntax.tyInt Syntax.w64) Syntax.tnil))),
     ) List.[])))))))))))))))
 
 abbrev pub t23 : List.List Row.Entry
 t23 = List._∷_ (0, Rows'.whole (Declared.row Answer.the-type)) (List._∷_ (
   1,
   Rows'.any-gone (Syntax.tyStruct (List._∷_ 103 (List._∷_ 114 (List._∷_ 101 (List._∷_ 101 (List._∷_ 110
-      (List._∷_ 119 (List._∷_ 97 (List._∷_ 108 (List._∷_ 100 (List._∷_ 95 (List._∷_ 107 (List._∷_ 104 (List._∷_ 97 (List._∷_ 110 (List._∷_ 110 (List._∷_ 97 (List._∷_ 58 (List._∷_ 58
-      (List._∷_ 83 (List._∷_ 116 (List._∷_ 114 (List._∷_ 101 (List._∷_ 97 (List._∷_ 109 List.[])))))))))))))))))))))))) (Syntax.tcons (Syntax.tyStruct (List._∷_ 102 (List._∷_ 114
-      (List._∷_ 97 (List._∷_ 99 (List._∷_ 116 (List._∷_ 105 (List._∷_ 111 (List._∷_ 110 (List._∷_ 58 (List._∷_ 58 (List._∷_ 70 (List._∷_ 114 (List._∷_ 97 (List._∷_ 99 (List._∷_ 116
-      (List._∷_ 105 (List._∷_ 111 (List._∷_ 110 List.[])))))))))))))))))) (Syntax.tcons (Syntax.tyInt Syntax.w32) (Syntax.tcons (Syntax.tyInt Syntax.w32) Syntax.tnil))) (Syntax.tcons
-      (Syntax.tyInt Syntax.w32) (Syntax.tcons (Syntax.tyInt Syntax.w32) Syntax.tnil)))),
-) (List._∷_ (2, Rows'.sslice Of.R (Syntax.tyRef (Syntax.named 0) Syntax.imm Of.tyBy) 0)
-    (List._∷_ (
-      3,
-      Rows'.any-gone (Syntax.tyEnum (List._∷_ 103 (List._∷_ 114 (List._∷_ 101 (List._∷_ 101 (List._∷_ 110 (List._∷_ 119 (List._∷_ 97 (List._∷_ 108 (List._∷_ 100
-          (List._∷_ 95 (List._∷_ 107 (List._∷_ 104 (List._∷_ 97 (List._∷_ 110 (List._∷_ 110 (List._∷_ 97 (List._∷_ 95 (List._∷_ 102 (List._∷_ 97 (List._∷_ 99 (List._∷_ 101 (List._∷_ 58
-          (List._∷_ 58 (List._∷_ 112 (List._∷_ 97 (List._∷_ 114 (List._∷_ 116 (List._∷_ 115 (List._∷_ 58 (List._∷_ 58 (List._∷_ 81 (List._∷_ 117 (List._∷_ 101 (List._∷_ 115 (List._∷_ 116
-          (List._∷_ 105 (List._∷_ 111 (List._∷_ 110 List.[])))))))))))))))))))))))))))))))))))))) (Syntax.ttcons (Syntax.tcons (Syntax.tyStruct (List._∷_ 102 (List._∷_ 114 (List._∷_ 97
-          (List._∷_ 99 (List._∷_ 116 (List._∷_ 105 (List._∷_ 111 (List._∷_ 110 (List._∷_ 58 (List._∷_ 58 (List._∷_ 70 (List._∷_ 114 (List._∷_ 97 (List._∷_ 99 (List._∷_ 116 (List._∷_ 105
-          (List._∷_ 111 (List._∷_ 110 List.[])))))))))))))))))) (Syntax.tcons (Syntax.tyInt Syntax.w32) (Syntax.tcons (Syntax.tyInt Syntax.w32) Syntax.tnil))) Syntax.tnil) (Syntax.ttcons
-          Syntax.tnil (Syntax.ttcons Syntax.tnil (Syntax.ttcons Syntax.tnil Syntax.ttnil))))),
-    ) (List._∷_ (4, Rows'.sc-here (Row.sInt Syntax.w64)) (List._∷_ (
-      5,
-      Rows'.sc-here (Row.sInt
-          Syntax.w64),
-    ) (List._∷_ (6, Rows'.any-gone (Syntax.tyArray (Syntax.tyArray (Syntax.tyInt Syntax.w32) 3) 256)) (List._∷_ (
+      (List._∷_ 119 (List._∷_ 97 (List._∷_ 108 (List._∷_ 100 (List._∷_ 95 (List._∷_ 107 (List._∷_ 104 (List._∷_ 97 (List._∷_ 110 (List._∷_ 110 (List._∷_ 97 (List._∷_ 95 (List._∷_ 115
+      (List._∷_ 116 (List._∷_ 101 (List._∷_ 112 (List._∷_ 115 (List._∷_ 58 (List._∷_ 58 (List._∷_ 83 (List._∷_ 116 (List._∷_ 114 (List._∷_ 101 (List._∷_ 97 (List._∷_ 109
+      List.[])))))))))))))))))))))))))))))) (Syntax.tcons (Syntax.tyStruct (List._∷_ 102 (List._∷_ 114 (List._∷_ 97 (List._∷_ 99 (List._∷_ 116 (List._∷_ 105 (List._∷_ 111 (List._∷_
+      110 (List._∷_ 58 (List._∷_ 58 (List._∷_ 70 (List._∷_ 114 (List._∷_ 97 (List._∷_ 99 (List._∷_ 116 (List._∷_ 105 (List._∷_ 111 (List._∷_ 110 List.[]))))))))))))))))))
+      (Syntax.tcons (Syntax.tyInt Syntax.w32) (Syntax.tcons (Syntax.tyInt Syntax.w32) Syntax.tnil))) (Syntax.tcons (Syntax.tyInt Syntax.w32) (Syntax.tcons (Syntax.tyInt Syntax.w32)
+      Syntax.tnil)))),
+) (List._∷_ (2, Rows'.sslice Of.R (Syntax.tyRef (Syntax.named 0) Syntax.imm Of.tyBy) 0) (List._∷_ (
+  3,
+  Rows'.any-gone (Syntax.tyEnum (List._∷_ 103 (List._∷_
+      114 (List._∷_ 101 (List._∷_ 101 (List._∷_ 110 (List._∷_ 119 (List._∷_ 97 (List._∷_ 108 (List._∷_ 100 (List._∷_ 95 (List._∷_ 107 (List._∷_ 104 (List._∷_ 97 (List._∷_ 110
+      (List._∷_ 110 (List._∷_ 97 (List._∷_ 95 (List._∷_ 102 (List._∷_ 97 (List._∷_ 99 (List._∷_ 101 (List._∷_ 58 (List._∷_ 58 (List._∷_ 112 (List._∷_ 97 (List._∷_ 114 (List._∷_ 116
+      (List._∷_ 115 (List._∷_ 58 (List._∷_ 58 (List._∷_ 81 (List._∷_ 117 (List._∷_ 101 (List._∷_ 115 (List._∷_ 116 (List._∷_ 105 (List._∷_ 111 (List._∷_ 110
+      List.[])))))))))))))))))))))))))))))))))))))) (Syntax.ttcons (Syntax.tcons (Syntax.tyStruct (List._∷_ 102 (List._∷_ 114 (List._∷_ 97 (List._∷_ 99 (List._∷_ 116 (List._∷_ 105
+      (List._∷_ 111 (List._∷_ 110 (List._∷_ 58 (List._∷_ 58 (List._∷_ 70 (List._∷_ 114 (List._∷_ 97 (List._∷_ 99 (List._∷_ 116 (List._∷_ 105 (List._∷_ 111 (List._∷_ 110
+      List.[])))))))))))))))))) (Syntax.tcons (Syntax.tyInt Syntax.w32) (Syntax.tcons (Syntax.tyInt Syntax.w32) Syntax.tnil))) Syntax.tnil) (Syntax.ttcons Syntax.tnil (Syntax.ttcons
+      Syntax.tnil (Syntax.ttcons Syntax.tnil Syntax.ttnil))))),
+) (List._∷_ (4, Rows'.sc-here (Row.sInt Syntax.w64)) (List._∷_ (5, Rows'.sc-here (Row.sInt Syntax.w64)) (List._∷_ (
+  6,
+  Rows'.any-gone (Syntax.tyArray (Syntax.tyArray (Syntax.tyInt Syntax.w32) 3) 256),
+) (List._∷_ (
+  7,
+  Rows'.any-gone (Syntax.tyArray (Syntax.tyArray (Syntax.tyInt Syntax.w32)
+      3) 4096),
+) (List._∷_ (8, Rows'.any-gone Syntax.tyBool) (List._∷_ (
+  9,
+  Rows'.any-gone (Syntax.tyEnum (List._∷_ 114 (List._∷_ 101 (List._∷_ 102 (List._∷_ 117 (List._∷_ 115
+      (List._∷_ 97 (List._∷_ 108 (List._∷_ 58 (List._∷_ 58 (List._∷_ 82 (List._∷_ 101 (List._∷_ 102 (List._∷_ 117 (List._∷_ 115 (List._∷_ 97 (List._∷_ 108 List.[]))))))))))))))))
+      (Syntax.ttcons Syntax.tnil (Syntax.ttcons Syntax.tnil (Syntax.ttcons Syntax.tnil (Syntax.ttcons Syntax.tnil (Syntax.ttcons Syntax.tnil (Syntax.ttcons Syntax.tnil (Syntax.ttcons
+      Syntax.tnil (Syntax.ttcons Syntax.tnil (Syntax.ttcons Syntax.tnil (Syntax.ttcons Syntax.tnil (Syntax.ttcons Syntax.tnil (Syntax.ttcons Syntax.tnil Syntax.ttnil))))))))))))),
+)
+    (List._∷_ (10, Rows'.any-gone (Syntax.tyArray (Syntax.tyInt Syntax.w32) 3)) (List._∷_ (
+      11,
+      Rows'.any-gone (Syntax.tyRef Syntax.erased Syntax.mut (Syntax.tyArray
+          (Syntax.tyArray (Syntax.tyInt Syntax.w32) 3) 256)),
+    ) (List._∷_ (
+      12,
+      Rows'.any-gone (Syntax.tyStruct (List._∷_ 38 (List._∷_ 91 (List._∷_ 93 List.[]))) (Syntax.tcons
+          (Syntax.tyRef Syntax.erased Syntax.mut (Syntax.tyArray (Syntax.tyInt Syntax.w32) 3)) (Syntax.tcons (Syntax.tyInt Syntax.w64) Syntax.tnil))),
+    ) (List._∷_ (
+      13,
+      Rows'.any-gone
+          (Syntax.tyArray (Syntax.tyInt Syntax.w32) 3),
+    ) (List._∷_ (
+      14,
+      Rows'.any-gone (Syntax.tyRef Syntax.erased Syntax.mut (Syntax.tyArray (Syntax.tyArray (Syntax.tyInt Syntax.w32) 3)
+          4096)),
+    ) (List._∷_ (
+      15,
+      Rows'.any-gone (Syntax.tyStruct (List._∷_ 38 (List._∷_ 91 (List._∷_ 93 List.[]))) (Syntax.tcons (Syntax.tyRef Syntax.erased Syntax.mut (Syntax.tyArray
+          (Syntax.tyInt Syntax.w32) 3)) (Syntax.tcons (Syntax.tyInt Syntax.w64) Syntax.tnil))),
+    ) List.[])))))))))))))))
+
+abbrev pub t24 : List.List Row.Entry
+t24 = List._∷_ (0, Rows'.whole (Declared.row Answer.the-type)) (List._∷_ (
+  1,
+  Rows'.any-gone (Syntax.tyStruct (List._∷_ 103 (List._∷_ 114 (List._∷_ 101 (List._∷_ 101 (List._∷_ 110
+      (List._∷_ 119 (List._∷_ 97 (List._∷_ 108 (List._∷_ 100 (List._∷_ 95 (List._∷_ 107 (List._∷_ 104 (List._∷_ 97 (List._∷_ 110 (List._∷_ 110 (List._∷_ 97 (List._∷_ 95 (List._∷_ 115
+      (List._∷_ 116 (List._∷_ 101 (List._∷_ 112 (List._∷_ 115 (List._∷_ 58 (List._∷_ 58 (List._∷_ 83 (List._∷_ 116 (List._∷_ 114 (List._∷_ 101 (List._∷_ 97 (List._∷_ 109
+      List.[])))))))))))))))))))))))))))))) (Syntax.tcons (Syntax.tyStruct (List._∷_ 102 (List._∷_ 114 (List._∷_ 97 (List._∷_ 99 (List._∷_ 116 (List._∷_ 105 (List._∷_ 111 (List._∷_
+      110 (List._∷_ 58 (List._∷_ 58 (List._∷_ 70 (List._∷_ 114 (List._∷_ 97 (List._∷_ 99 (List._∷_ 116 (List._∷_ 105 (List._∷_ 111 (List._∷_ 110 List.[]))))))))))))))))))
+      (Syntax.tcons (Syntax.tyInt Syntax.w32) (Syntax.tcons (Syntax.tyInt Syntax.w32) Syntax.tnil))) (Syntax.tcons (Syntax.tyInt Syntax.w32) (Syntax.tcons (Syntax.tyInt Syntax.w32)
+      Syntax.tnil)))),
+) (List._∷_ (2, Rows'.sslice Of.R (Syntax.tyRef (Syntax.named 0) Syntax.imm Of.tyBy) 0) (List._∷_ (
+  3,
+  Rows'.any-gone (Syntax.tyEnum (List._∷_ 103 (List._∷_
+      114 (List._∷_ 101 (List._∷_ 101 (List._∷_ 110 (List._∷_ 119 (List._∷_ 97 (List._∷_ 108 (List._∷_ 100 (List._∷_ 95 (List._∷_ 107 (List._∷_ 104 (List._∷_ 97 (List._∷_ 110
+      (List._∷_ 110 (List._∷_ 97 (List._∷_ 95 (List._∷_ 102 (List._∷_ 97 (List._∷_ 99 (List._∷_ 101 (List._∷_ 58 (List._∷_ 58 (List._∷_ 112 (List._∷_ 97 (List._∷_ 114 (List._∷_ 116
+      (List._∷_ 115 (List._∷_ 58 (List._∷_ 58 (List._∷_ 81 (List._∷_ 117 (List._∷_ 101 (List._∷_ 115 (List._∷_ 116 (List._∷_ 105 (List._∷_ 111 (List._∷_ 110
+      List.[])))))))))))))))))))))))))))))))))))))) (Syntax.ttcons (Syntax.tcons (Syntax.tyStruct (List._∷_ 102 (List._∷_ 114 (List._∷_ 97 (List._∷_ 99 (List._∷_ 116 (List._∷_ 105
+      (List._∷_ 111 (List._∷_ 110 (List._∷_ 58 (List._∷_ 58 (List._∷_ 70 (List._∷_ 114 (List._∷_ 97 (List._∷_ 99 (List._∷_ 116 (List._∷_ 105 (List._∷_ 111 (List._∷_ 110
+      List.[])))))))))))))))))) (Syntax.tcons (Syntax.tyInt Syntax.w32) (Syntax.tcons (Syntax.tyInt Syntax.w32) Syntax.tnil))) Syntax.tnil) (Syntax.ttcons Syntax.tnil (Syntax.ttcons
+      Syntax.tnil (Syntax.ttcons Syntax.tnil Syntax.ttnil))))),
+) (List._∷_ (4, Rows'.any-gone (Syntax.tyInt Syntax.w64)) (List._∷_ (5, Rows'.sc-here (Row.sInt Syntax.w64))
+    (List._∷_ (6, Rows'.any-gone (Syntax.tyArray (Syntax.tyArray (Syntax.tyInt Syntax.w32) 3) 256)) (List._∷_ (
       7,
-      Rows'.any-gone (Syntax.tyArray (Syntax.tyArray
-          (Syntax.tyInt Syntax.w32) 3) 4096),
+      Rows'.any-gone (Syntax.tyArray (Syntax.tyArray (Syntax.tyInt
+          Syntax.w32) 3) 4096),
     ) (List._∷_ (8, Rows'.any-gone Syntax.tyBool) (List._∷_ (
       9,
-      Rows'.any-gone (Syntax.tyEnum (List._∷_ 114 (List._∷_ 101 (List._∷_ 102
-          (List._∷_ 117 (List._∷_ 115 (List._∷_ 97 (List._∷_ 108 (List._∷_ 58 (List._∷_ 58 (List._∷_ 82 (List._∷_ 101 (List._∷_ 102 (List._∷_ 117 (List._∷_ 115 (List._∷_ 97 (List._∷_ 108
+      Rows'.any-gone (Syntax.tyEnum (List._∷_ 114 (List._∷_ 101 (List._∷_ 102 (List._∷_ 117
+          (List._∷_ 115 (List._∷_ 97 (List._∷_ 108 (List._∷_ 58 (List._∷_ 58 (List._∷_ 82 (List._∷_ 101 (List._∷_ 102 (List._∷_ 117 (List._∷_ 115 (List._∷_ 97 (List._∷_ 108
           List.[])))))))))))))))) (Syntax.ttcons Syntax.tnil (Syntax.ttcons Syntax.tnil (Syntax.ttcons Syntax.tnil (Syntax.ttcons Syntax.tnil (Syntax.ttcons Syntax.tnil (Syntax.ttcons
           Syntax.tnil (Syntax.ttcons Syntax.tnil (Syntax.ttcons Syntax.tnil (Syntax.ttcons Syntax.tnil (Syntax.ttcons Syntax.tnil (Syntax.ttcons Syntax.tnil (Syntax.ttcons Syntax.tnil
           Syntax.ttnil))))))))))))),
@@ -1540,59 +1584,6 @@ t23 = List._∷_ (0, Rows'.whole (Declared.row Answer.the-type)) (List._∷_ (
       15,
       Rows'.any-gone (Syntax.tyStruct (List._∷_ 38 (List._∷_ 91 (List._∷_ 93 List.[]))) (Syntax.tcons (Syntax.tyRef Syntax.erased Syntax.mut
           (Syntax.tyArray (Syntax.tyInt Syntax.w32) 3)) (Syntax.tcons (Syntax.tyInt Syntax.w64) Syntax.tnil))),
-    ) List.[])))))))))))))))
-
-abbrev pub t24 : List.List Row.Entry
-t24 = List._∷_ (0, Rows'.whole (Declared.row Answer.the-type)) (List._∷_ (
-  1,
-  Rows'.any-gone (Syntax.tyStruct (List._∷_ 103 (List._∷_ 114 (List._∷_ 101 (List._∷_ 101 (List._∷_ 110
-      (List._∷_ 119 (List._∷_ 97 (List._∷_ 108 (List._∷_ 100 (List._∷_ 95 (List._∷_ 107 (List._∷_ 104 (List._∷_ 97 (List._∷_ 110 (List._∷_ 110 (List._∷_ 97 (List._∷_ 58 (List._∷_ 58
-      (List._∷_ 83 (List._∷_ 116 (List._∷_ 114 (List._∷_ 101 (List._∷_ 97 (List._∷_ 109 List.[])))))))))))))))))))))))) (Syntax.tcons (Syntax.tyStruct (List._∷_ 102 (List._∷_ 114
-      (List._∷_ 97 (List._∷_ 99 (List._∷_ 116 (List._∷_ 105 (List._∷_ 111 (List._∷_ 110 (List._∷_ 58 (List._∷_ 58 (List._∷_ 70 (List._∷_ 114 (List._∷_ 97 (List._∷_ 99 (List._∷_ 116
-      (List._∷_ 105 (List._∷_ 111 (List._∷_ 110 List.[])))))))))))))))))) (Syntax.tcons (Syntax.tyInt Syntax.w32) (Syntax.tcons (Syntax.tyInt Syntax.w32) Syntax.tnil))) (Syntax.tcons
-      (Syntax.tyInt Syntax.w32) (Syntax.tcons (Syntax.tyInt Syntax.w32) Syntax.tnil)))),
-) (List._∷_ (2, Rows'.sslice Of.R (Syntax.tyRef (Syntax.named 0) Syntax.imm Of.tyBy) 0)
-    (List._∷_ (
-      3,
-      Rows'.any-gone (Syntax.tyEnum (List._∷_ 103 (List._∷_ 114 (List._∷_ 101 (List._∷_ 101 (List._∷_ 110 (List._∷_ 119 (List._∷_ 97 (List._∷_ 108 (List._∷_ 100
-          (List._∷_ 95 (List._∷_ 107 (List._∷_ 104 (List._∷_ 97 (List._∷_ 110 (List._∷_ 110 (List._∷_ 97 (List._∷_ 95 (List._∷_ 102 (List._∷_ 97 (List._∷_ 99 (List._∷_ 101 (List._∷_ 58
-          (List._∷_ 58 (List._∷_ 112 (List._∷_ 97 (List._∷_ 114 (List._∷_ 116 (List._∷_ 115 (List._∷_ 58 (List._∷_ 58 (List._∷_ 81 (List._∷_ 117 (List._∷_ 101 (List._∷_ 115 (List._∷_ 116
-          (List._∷_ 105 (List._∷_ 111 (List._∷_ 110 List.[])))))))))))))))))))))))))))))))))))))) (Syntax.ttcons (Syntax.tcons (Syntax.tyStruct (List._∷_ 102 (List._∷_ 114 (List._∷_ 97
-          (List._∷_ 99 (List._∷_ 116 (List._∷_ 105 (List._∷_ 111 (List._∷_ 110 (List._∷_ 58 (List._∷_ 58 (List._∷_ 70 (List._∷_ 114 (List._∷_ 97 (List._∷_ 99 (List._∷_ 116 (List._∷_ 105
-          (List._∷_ 111 (List._∷_ 110 List.[])))))))))))))))))) (Syntax.tcons (Syntax.tyInt Syntax.w32) (Syntax.tcons (Syntax.tyInt Syntax.w32) Syntax.tnil))) Syntax.tnil) (Syntax.ttcons
-          Syntax.tnil (Syntax.ttcons Syntax.tnil (Syntax.ttcons Syntax.tnil Syntax.ttnil))))),
-    ) (List._∷_ (4, Rows'.any-gone (Syntax.tyInt Syntax.w64)) (List._∷_ (
-      5,
-      Rows'.sc-here
-          (Row.sInt Syntax.w64),
-    ) (List._∷_ (6, Rows'.any-gone (Syntax.tyArray (Syntax.tyArray (Syntax.tyInt Syntax.w32) 3) 256)) (List._∷_ (
-      7,
-      Rows'.any-gone (Syntax.tyArray
-          (Syntax.tyArray (Syntax.tyInt Syntax.w32) 3) 4096),
-    ) (List._∷_ (8, Rows'.any-gone Syntax.tyBool) (List._∷_ (
-      9,
-      Rows'.any-gone (Syntax.tyEnum (List._∷_ 114 (List._∷_ 101
-          (List._∷_ 102 (List._∷_ 117 (List._∷_ 115 (List._∷_ 97 (List._∷_ 108 (List._∷_ 58 (List._∷_ 58 (List._∷_ 82 (List._∷_ 101 (List._∷_ 102 (List._∷_ 117 (List._∷_ 115 (List._∷_ 97
-          (List._∷_ 108 List.[])))))))))))))))) (Syntax.ttcons Syntax.tnil (Syntax.ttcons Syntax.tnil (Syntax.ttcons Syntax.tnil (Syntax.ttcons Syntax.tnil (Syntax.ttcons Syntax.tnil
-          (Syntax.ttcons Syntax.tnil (Syntax.ttcons Syntax.tnil (Syntax.ttcons Syntax.tnil (Syntax.ttcons Syntax.tnil (Syntax.ttcons Syntax.tnil (Syntax.ttcons Syntax.tnil (Syntax.ttcons
-          Syntax.tnil Syntax.ttnil))))))))))))),
-    ) (List._∷_ (10, Rows'.any-gone (Syntax.tyArray (Syntax.tyInt Syntax.w32) 3)) (List._∷_ (
-      11,
-      Rows'.any-gone (Syntax.tyRef Syntax.erased
-          Syntax.mut (Syntax.tyArray (Syntax.tyArray (Syntax.tyInt Syntax.w32) 3) 256)),
-    ) (List._∷_ (
-      12,
-      Rows'.any-gone (Syntax.tyStruct (List._∷_ 38 (List._∷_ 91 (List._∷_ 93
-          List.[]))) (Syntax.tcons (Syntax.tyRef Syntax.erased Syntax.mut (Syntax.tyArray (Syntax.tyInt Syntax.w32) 3)) (Syntax.tcons (Syntax.tyInt Syntax.w64) Syntax.tnil))),
-    )
-    (List._∷_ (13, Rows'.any-gone (Syntax.tyArray (Syntax.tyInt Syntax.w32) 3)) (List._∷_ (
-      14,
-      Rows'.any-gone (Syntax.tyRef Syntax.erased Syntax.mut (Syntax.tyArray
-          (Syntax.tyArray (Syntax.tyInt Syntax.w32) 3) 4096)),
-    ) (List._∷_ (
-      15,
-      Rows'.any-gone (Syntax.tyStruct (List._∷_ 38 (List._∷_ 91 (List._∷_ 93 List.[]))) (Syntax.tcons
-          (Syntax.tyRef Syntax.erased Syntax.mut (Syntax.tyArray (Syntax.tyInt Syntax.w32) 3)) (Syntax.tcons (Syntax.tyInt Syntax.w64) Syntax.tnil))),
     ) List.[])))))))))))))))
 
 abbrev pub t25 : List.List Row.Entry
@@ -1952,26 +1943,76 @@ abbrev pub t33 : List.List Row.Entry
 t33 = List._∷_ (0, Rows'.whole (Declared.row Answer.the-type)) (List._∷_ (
   1,
   Rows'.any-gone (Syntax.tyStruct (List._∷_ 103 (List._∷_ 114 (List._∷_ 101 (List._∷_ 101 (List._∷_ 110
-      (List._∷_ 119 (List._∷_ 97 (List._∷_ 108 (List._∷_ 100 (List._∷_ 95 (List._∷_ 107 (List._∷_ 104 (List._∷_ 97 (List._∷_ 110 (List._∷_ 110 (List._∷_ 97 (List._∷_ 58 (List._∷_ 58
-      (List._∷_ 83 (List._∷_ 116 (List._∷_ 114 (List._∷_ 101 (List._∷_ 97 (List._∷_ 109 List.[])))))))))))))))))))))))) (Syntax.tcons (Syntax.tyStruct (List._∷_ 102 (List._∷_ 114
-      (List._∷_ 97 (List._∷_ 99 (List._∷_ 116 (List._∷_ 105 (List._∷_ 111 (List._∷_ 110 (List._∷_ 58 (List._∷_ 58 (List._∷_ 70 (List._∷_ 114 (List._∷_ 97 (List._∷_ 99 (List._∷_ 116
-      (List._∷_ 105 (List._∷_ 111 (List._∷_ 110 List.[])))))))))))))))))) (Syntax.tcons (Syntax.tyInt Syntax.w32) (Syntax.tcons (Syntax.tyInt Syntax.w32) Syntax.tnil))) (Syntax.tcons
-      (Syntax.tyInt Syntax.w32) (Syntax.tcons (Syntax.tyInt Syntax.w32) Syntax.tnil)))),
-) (List._∷_ (2, Rows'.sslice Of.R (Syntax.tyRef (Syntax.named 0) Syntax.imm Of.tyBy) 0)
-    (List._∷_ (3, Rows'.whole (Declared.row Question.the-type)) (List._∷_ (4, Rows'.sc-here (Row.sInt Syntax.w64)) (List._∷_ (5, Rows'.sc-here (Row.sInt Syntax.w64)) (List._∷_ (
+      (List._∷_ 119 (List._∷_ 97 (List._∷_ 108 (List._∷_ 100 (List._∷_ 95 (List._∷_ 107 (List._∷_ 104 (List._∷_ 97 (List._∷_ 110 (List._∷_ 110 (List._∷_ 97 (List._∷_ 95 (List._∷_ 115
+      (List._∷_ 116 (List._∷_ 101 (List._∷_ 112 (List._∷_ 115 (List._∷_ 58 (List._∷_ 58 (List._∷_ 83 (List._∷_ 116 (List._∷_ 114 (List._∷_ 101 (List._∷_ 97 (List._∷_ 109
+      List.[])))))))))))))))))))))))))))))) (Syntax.tcons (Syntax.tyStruct (List._∷_ 102 (List._∷_ 114 (List._∷_ 97 (List._∷_ 99 (List._∷_ 116 (List._∷_ 105 (List._∷_ 111 (List._∷_
+      110 (List._∷_ 58 (List._∷_ 58 (List._∷_ 70 (List._∷_ 114 (List._∷_ 97 (List._∷_ 99 (List._∷_ 116 (List._∷_ 105 (List._∷_ 111 (List._∷_ 110 List.[]))))))))))))))))))
+      (Syntax.tcons (Syntax.tyInt Syntax.w32) (Syntax.tcons (Syntax.tyInt Syntax.w32) Syntax.tnil))) (Syntax.tcons (Syntax.tyInt Syntax.w32) (Syntax.tcons (Syntax.tyInt Syntax.w32)
+      Syntax.tnil)))),
+) (List._∷_ (2, Rows'.sslice Of.R (Syntax.tyRef (Syntax.named 0) Syntax.imm Of.tyBy) 0) (List._∷_ (3, Rows'.whole (Declared.row Question.the-type))
+    (List._∷_ (4, Rows'.sc-here (Row.sInt Syntax.w64)) (List._∷_ (5, Rows'.sc-here (Row.sInt Syntax.w64)) (List._∷_ (
       6,
-      Rows'.any-gone (Syntax.tyArray (Syntax.tyArray (Syntax.tyInt Syntax.w32) 3) 256),
-    ) (List._∷_ (
-      7,
-      Rows.arr-owed (Array'.Array (Referent.rtF (Referent.fInt Syntax.w32)) 3)
-          4096 2,
-    ) (List._∷_ (8, Rows'.any-gone Syntax.tyBool) (List._∷_ (
+      Rows'.any-gone (Syntax.tyArray (Syntax.tyArray
+          (Syntax.tyInt Syntax.w32) 3) 256),
+    ) (List._∷_ (7, Rows.arr-owed (Array'.Array (Referent.rtF (Referent.fInt Syntax.w32)) 3) 4096 2) (List._∷_ (8, Rows'.any-gone Syntax.tyBool)
+    (List._∷_ (
       9,
-      Rows'.any-gone (Syntax.tyEnum (List._∷_ 114 (List._∷_ 101 (List._∷_ 102 (List._∷_ 117 (List._∷_ 115 (List._∷_
-          97 (List._∷_ 108 (List._∷_ 58 (List._∷_ 58 (List._∷_ 82 (List._∷_ 101 (List._∷_ 102 (List._∷_ 117 (List._∷_ 115 (List._∷_ 97 (List._∷_ 108 List.[]))))))))))))))))
+      Rows'.any-gone (Syntax.tyEnum (List._∷_ 114 (List._∷_ 101 (List._∷_ 102 (List._∷_ 117 (List._∷_ 115 (List._∷_ 97 (List._∷_ 108 (List._∷_ 58 (List._∷_ 58
+          (List._∷_ 82 (List._∷_ 101 (List._∷_ 102 (List._∷_ 117 (List._∷_ 115 (List._∷_ 97 (List._∷_ 108 List.[])))))))))))))))) (Syntax.ttcons Syntax.tnil (Syntax.ttcons Syntax.tnil
           (Syntax.ttcons Syntax.tnil (Syntax.ttcons Syntax.tnil (Syntax.ttcons Syntax.tnil (Syntax.ttcons Syntax.tnil (Syntax.ttcons Syntax.tnil (Syntax.ttcons Syntax.tnil (Syntax.ttcons
-          Syntax.tnil (Syntax.ttcons Syntax.tnil (Syntax.ttcons Syntax.tnil (Syntax.ttcons Syntax.tnil (Syntax.ttcons Syntax.tnil (Syntax.ttcons Syntax.tnil Syntax.ttnil))))))))))))),
-    )
+          Syntax.tnil (Syntax.ttcons Syntax.tnil (Syntax.ttcons Syntax.tnil (Syntax.ttcons Syntax.tnil Syntax.ttnil))))))))))))),
+    ) (List._∷_ (
+      10,
+      Rows'.any-gone (Syntax.tyArray
+          (Syntax.tyInt Syntax.w32) 3),
+    ) (List._∷_ (11, Rows'.any-gone (Syntax.tyRef Syntax.erased Syntax.mut (Syntax.tyArray (Syntax.tyArray (Syntax.tyInt Syntax.w32) 3) 256)))
+    (List._∷_ (
+      12,
+      Rows'.any-gone (Syntax.tyStruct (List._∷_ 38 (List._∷_ 91 (List._∷_ 93 List.[]))) (Syntax.tcons (Syntax.tyRef Syntax.erased Syntax.mut (Syntax.tyArray
+          (Syntax.tyInt Syntax.w32) 3)) (Syntax.tcons (Syntax.tyInt Syntax.w64) Syntax.tnil))),
+    ) (List._∷_ (13, Rows'.any-gone (Syntax.tyArray (Syntax.tyInt Syntax.w32) 3)) (List._∷_ (
+      14,
+      Rows'.any-gone (Syntax.tyRef Syntax.erased Syntax.mut (Syntax.tyArray (Syntax.tyArray (Syntax.tyInt Syntax.w32) 3) 4096)),
+    ) (List._∷_ (
+      15,
+      Mut.msleft (Array'.Array
+          (Referent.rtF (Referent.fInt Syntax.w32)) 3) (Syntax.tyRef Syntax.erased Syntax.mut (Syntax.tyArray (Syntax.tyInt Syntax.w32) 3)),
+    ) List.[])))))))))))))))
+
+abbrev pub t34 : List.List Row.Entry
+t34 = List._∷_ (0, Rows'.whole (Declared.row Answer.the-type)) (List._∷_ (
+  1,
+  Rows'.any-gone (Syntax.tyStruct (List._∷_ 103 (List._∷_ 114 (List._∷_ 101 (List._∷_ 101 (List._∷_ 110
+      (List._∷_ 119 (List._∷_ 97 (List._∷_ 108 (List._∷_ 100 (List._∷_ 95 (List._∷_ 107 (List._∷_ 104 (List._∷_ 97 (List._∷_ 110 (List._∷_ 110 (List._∷_ 97 (List._∷_ 95 (List._∷_ 115
+      (List._∷_ 116 (List._∷_ 101 (List._∷_ 112 (List._∷_ 115 (List._∷_ 58 (List._∷_ 58 (List._∷_ 83 (List._∷_ 116 (List._∷_ 114 (List._∷_ 101 (List._∷_ 97 (List._∷_ 109
+      List.[])))))))))))))))))))))))))))))) (Syntax.tcons (Syntax.tyStruct (List._∷_ 102 (List._∷_ 114 (List._∷_ 97 (List._∷_ 99 (List._∷_ 116 (List._∷_ 105 (List._∷_ 111 (List._∷_
+      110 (List._∷_ 58 (List._∷_ 58 (List._∷_ 70 (List._∷_ 114 (List._∷_ 97 (List._∷_ 99 (List._∷_ 116 (List._∷_ 105 (List._∷_ 111 (List._∷_ 110 List.[]))))))))))))))))))
+      (Syntax.tcons (Syntax.tyInt Syntax.w32) (Syntax.tcons (Syntax.tyInt Syntax.w32) Syntax.tnil))) (Syntax.tcons (Syntax.tyInt Syntax.w32) (Syntax.tcons (Syntax.tyInt Syntax.w32)
+      Syntax.tnil)))),
+) (List._∷_ (2, Rows'.sslice Of.R (Syntax.tyRef (Syntax.named 0) Syntax.imm Of.tyBy) 0) (List._∷_ (
+  3,
+  Rows'.any-gone (Syntax.tyEnum (List._∷_ 103 (List._∷_
+      114 (List._∷_ 101 (List._∷_ 101 (List._∷_ 110 (List._∷_ 119 (List._∷_ 97 (List._∷_ 108 (List._∷_ 100 (List._∷_ 95 (List._∷_ 107 (List._∷_ 104 (List._∷_ 97 (List._∷_ 110
+      (List._∷_ 110 (List._∷_ 97 (List._∷_ 95 (List._∷_ 102 (List._∷_ 97 (List._∷_ 99 (List._∷_ 101 (List._∷_ 58 (List._∷_ 58 (List._∷_ 112 (List._∷_ 97 (List._∷_ 114 (List._∷_ 116
+      (List._∷_ 115 (List._∷_ 58 (List._∷_ 58 (List._∷_ 81 (List._∷_ 117 (List._∷_ 101 (List._∷_ 115 (List._∷_ 116 (List._∷_ 105 (List._∷_ 111 (List._∷_ 110
+      List.[])))))))))))))))))))))))))))))))))))))) (Syntax.ttcons (Syntax.tcons (Syntax.tyStruct (List._∷_ 102 (List._∷_ 114 (List._∷_ 97 (List._∷_ 99 (List._∷_ 116 (List._∷_ 105
+      (List._∷_ 111 (List._∷_ 110 (List._∷_ 58 (List._∷_ 58 (List._∷_ 70 (List._∷_ 114 (List._∷_ 97 (List._∷_ 99 (List._∷_ 116 (List._∷_ 105 (List._∷_ 111 (List._∷_ 110
+      List.[])))))))))))))))))) (Syntax.tcons (Syntax.tyInt Syntax.w32) (Syntax.tcons (Syntax.tyInt Syntax.w32) Syntax.tnil))) Syntax.tnil) (Syntax.ttcons Syntax.tnil (Syntax.ttcons
+      Syntax.tnil (Syntax.ttcons Syntax.tnil Syntax.ttnil))))),
+) (List._∷_ (4, Rows'.sc-here (Row.sInt Syntax.w64)) (List._∷_ (5, Rows'.sc-here (Row.sInt Syntax.w64)) (List._∷_ (
+  6,
+  Rows'.any-gone (Syntax.tyArray (Syntax.tyArray (Syntax.tyInt Syntax.w32) 3) 256),
+) (List._∷_ (
+  7,
+  Rows.arr-owed (Array'.Array (Referent.rtF (Referent.fInt Syntax.w32)) 3)
+      4096 2,
+) (List._∷_ (8, Rows'.any-gone Syntax.tyBool) (List._∷_ (
+  9,
+  Rows'.any-gone (Syntax.tyEnum (List._∷_ 114 (List._∷_ 101 (List._∷_ 102 (List._∷_ 117 (List._∷_ 115
+      (List._∷_ 97 (List._∷_ 108 (List._∷_ 58 (List._∷_ 58 (List._∷_ 82 (List._∷_ 101 (List._∷_ 102 (List._∷_ 117 (List._∷_ 115 (List._∷_ 97 (List._∷_ 108 List.[]))))))))))))))))
+      (Syntax.ttcons Syntax.tnil (Syntax.ttcons Syntax.tnil (Syntax.ttcons Syntax.tnil (Syntax.ttcons Syntax.tnil (Syntax.ttcons Syntax.tnil (Syntax.ttcons Syntax.tnil (Syntax.ttcons
+      Syntax.tnil (Syntax.ttcons Syntax.tnil (Syntax.ttcons Syntax.tnil (Syntax.ttcons Syntax.tnil (Syntax.ttcons Syntax.tnil (Syntax.ttcons Syntax.tnil Syntax.ttnil))))))))))))),
+)
     (List._∷_ (10, Rows'.any-gone (Syntax.tyArray (Syntax.tyInt Syntax.w32) 3)) (List._∷_ (
       11,
       Rows'.any-gone (Syntax.tyRef Syntax.erased Syntax.mut (Syntax.tyArray
@@ -1994,37 +2035,35 @@ t33 = List._∷_ (0, Rows'.whole (Declared.row Answer.the-type)) (List._∷_ (
           3)),
     ) List.[])))))))))))))))
 
-abbrev pub t34 : List.List Row.Entry
-t34 = List._∷_ (0, Rows'.whole (Declared.row Answer.the-type)) (List._∷_ (
+abbrev pub t35 : List.List Row.Entry
+t35 = List._∷_ (0, Rows'.whole (Declared.row Answer.the-type)) (List._∷_ (
   1,
   Rows'.any-gone (Syntax.tyStruct (List._∷_ 103 (List._∷_ 114 (List._∷_ 101 (List._∷_ 101 (List._∷_ 110
-      (List._∷_ 119 (List._∷_ 97 (List._∷_ 108 (List._∷_ 100 (List._∷_ 95 (List._∷_ 107 (List._∷_ 104 (List._∷_ 97 (List._∷_ 110 (List._∷_ 110 (List._∷_ 97 (List._∷_ 58 (List._∷_ 58
-      (List._∷_ 83 (List._∷_ 116 (List._∷_ 114 (List._∷_ 101 (List._∷_ 97 (List._∷_ 109 List.[])))))))))))))))))))))))) (Syntax.tcons (Syntax.tyStruct (List._∷_ 102 (List._∷_ 114
-      (List._∷_ 97 (List._∷_ 99 (List._∷_ 116 (List._∷_ 105 (List._∷_ 111 (List._∷_ 110 (List._∷_ 58 (List._∷_ 58 (List._∷_ 70 (List._∷_ 114 (List._∷_ 97 (List._∷_ 99 (List._∷_ 116
-      (List._∷_ 105 (List._∷_ 111 (List._∷_ 110 List.[])))))))))))))))))) (Syntax.tcons (Syntax.tyInt Syntax.w32) (Syntax.tcons (Syntax.tyInt Syntax.w32) Syntax.tnil))) (Syntax.tcons
-      (Syntax.tyInt Syntax.w32) (Syntax.tcons (Syntax.tyInt Syntax.w32) Syntax.tnil)))),
-) (List._∷_ (2, Rows'.sslice Of.R (Syntax.tyRef (Syntax.named 0) Syntax.imm Of.tyBy) 0)
-    (List._∷_ (
-      3,
-      Rows'.any-gone (Syntax.tyEnum (List._∷_ 103 (List._∷_ 114 (List._∷_ 101 (List._∷_ 101 (List._∷_ 110 (List._∷_ 119 (List._∷_ 97 (List._∷_ 108 (List._∷_ 100
-          (List._∷_ 95 (List._∷_ 107 (List._∷_ 104 (List._∷_ 97 (List._∷_ 110 (List._∷_ 110 (List._∷_ 97 (List._∷_ 95 (List._∷_ 102 (List._∷_ 97 (List._∷_ 99 (List._∷_ 101 (List._∷_ 58
-          (List._∷_ 58 (List._∷_ 112 (List._∷_ 97 (List._∷_ 114 (List._∷_ 116 (List._∷_ 115 (List._∷_ 58 (List._∷_ 58 (List._∷_ 81 (List._∷_ 117 (List._∷_ 101 (List._∷_ 115 (List._∷_ 116
-          (List._∷_ 105 (List._∷_ 111 (List._∷_ 110 List.[])))))))))))))))))))))))))))))))))))))) (Syntax.ttcons (Syntax.tcons (Syntax.tyStruct (List._∷_ 102 (List._∷_ 114 (List._∷_ 97
-          (List._∷_ 99 (List._∷_ 116 (List._∷_ 105 (List._∷_ 111 (List._∷_ 110 (List._∷_ 58 (List._∷_ 58 (List._∷_ 70 (List._∷_ 114 (List._∷_ 97 (List._∷_ 99 (List._∷_ 116 (List._∷_ 105
-          (List._∷_ 111 (List._∷_ 110 List.[])))))))))))))))))) (Syntax.tcons (Syntax.tyInt Syntax.w32) (Syntax.tcons (Syntax.tyInt Syntax.w32) Syntax.tnil))) Syntax.tnil) (Syntax.ttcons
-          Syntax.tnil (Syntax.ttcons Syntax.tnil (Syntax.ttcons Syntax.tnil Syntax.ttnil))))),
-    ) (List._∷_ (4, Rows'.sc-here (Row.sInt Syntax.w64)) (List._∷_ (
-      5,
-      Rows'.sc-here (Row.sInt
-          Syntax.w64),
-    ) (List._∷_ (6, Rows'.any-gone (Syntax.tyArray (Syntax.tyArray (Syntax.tyInt Syntax.w32) 3) 256)) (List._∷_ (
+      (List._∷_ 119 (List._∷_ 97 (List._∷_ 108 (List._∷_ 100 (List._∷_ 95 (List._∷_ 107 (List._∷_ 104 (List._∷_ 97 (List._∷_ 110 (List._∷_ 110 (List._∷_ 97 (List._∷_ 95 (List._∷_ 115
+      (List._∷_ 116 (List._∷_ 101 (List._∷_ 112 (List._∷_ 115 (List._∷_ 58 (List._∷_ 58 (List._∷_ 83 (List._∷_ 116 (List._∷_ 114 (List._∷_ 101 (List._∷_ 97 (List._∷_ 109
+      List.[])))))))))))))))))))))))))))))) (Syntax.tcons (Syntax.tyStruct (List._∷_ 102 (List._∷_ 114 (List._∷_ 97 (List._∷_ 99 (List._∷_ 116 (List._∷_ 105 (List._∷_ 111 (List._∷_
+      110 (List._∷_ 58 (List._∷_ 58 (List._∷_ 70 (List._∷_ 114 (List._∷_ 97 (List._∷_ 99 (List._∷_ 116 (List._∷_ 105 (List._∷_ 111 (List._∷_ 110 List.[]))))))))))))))))))
+      (Syntax.tcons (Syntax.tyInt Syntax.w32) (Syntax.tcons (Syntax.tyInt Syntax.w32) Syntax.tnil))) (Syntax.tcons (Syntax.tyInt Syntax.w32) (Syntax.tcons (Syntax.tyInt Syntax.w32)
+      Syntax.tnil)))),
+) (List._∷_ (2, Rows'.sslice Of.R (Syntax.tyRef (Syntax.named 0) Syntax.imm Of.tyBy) 0) (List._∷_ (
+  3,
+  Rows'.any-gone (Syntax.tyEnum (List._∷_ 103 (List._∷_
+      114 (List._∷_ 101 (List._∷_ 101 (List._∷_ 110 (List._∷_ 119 (List._∷_ 97 (List._∷_ 108 (List._∷_ 100 (List._∷_ 95 (List._∷_ 107 (List._∷_ 104 (List._∷_ 97 (List._∷_ 110
+      (List._∷_ 110 (List._∷_ 97 (List._∷_ 95 (List._∷_ 102 (List._∷_ 97 (List._∷_ 99 (List._∷_ 101 (List._∷_ 58 (List._∷_ 58 (List._∷_ 112 (List._∷_ 97 (List._∷_ 114 (List._∷_ 116
+      (List._∷_ 115 (List._∷_ 58 (List._∷_ 58 (List._∷_ 81 (List._∷_ 117 (List._∷_ 101 (List._∷_ 115 (List._∷_ 116 (List._∷_ 105 (List._∷_ 111 (List._∷_ 110
+      List.[])))))))))))))))))))))))))))))))))))))) (Syntax.ttcons (Syntax.tcons (Syntax.tyStruct (List._∷_ 102 (List._∷_ 114 (List._∷_ 97 (List._∷_ 99 (List._∷_ 116 (List._∷_ 105
+      (List._∷_ 111 (List._∷_ 110 (List._∷_ 58 (List._∷_ 58 (List._∷_ 70 (List._∷_ 114 (List._∷_ 97 (List._∷_ 99 (List._∷_ 116 (List._∷_ 105 (List._∷_ 111 (List._∷_ 110
+      List.[])))))))))))))))))) (Syntax.tcons (Syntax.tyInt Syntax.w32) (Syntax.tcons (Syntax.tyInt Syntax.w32) Syntax.tnil))) Syntax.tnil) (Syntax.ttcons Syntax.tnil (Syntax.ttcons
+      Syntax.tnil (Syntax.ttcons Syntax.tnil Syntax.ttnil))))),
+) (List._∷_ (4, Rows'.any-gone (Syntax.tyInt Syntax.w64)) (List._∷_ (5, Rows'.sc-here (Row.sInt Syntax.w64))
+    (List._∷_ (6, Rows'.any-gone (Syntax.tyArray (Syntax.tyArray (Syntax.tyInt Syntax.w32) 3) 256)) (List._∷_ (
       7,
-      Rows.arr-owed (Array'.Array (Referent.rtF
-          (Referent.fInt Syntax.w32)) 3) 4096 2,
+      Rows.arr-owed (Array'.Array (Referent.rtF (Referent.fInt
+          Syntax.w32)) 3) 4096 2,
     ) (List._∷_ (8, Rows'.any-gone Syntax.tyBool) (List._∷_ (
       9,
-      Rows'.any-gone (Syntax.tyEnum (List._∷_ 114 (List._∷_ 101 (List._∷_ 102
-          (List._∷_ 117 (List._∷_ 115 (List._∷_ 97 (List._∷_ 108 (List._∷_ 58 (List._∷_ 58 (List._∷_ 82 (List._∷_ 101 (List._∷_ 102 (List._∷_ 117 (List._∷_ 115 (List._∷_ 97 (List._∷_ 108
+      Rows'.any-gone (Syntax.tyEnum (List._∷_ 114 (List._∷_ 101 (List._∷_ 102 (List._∷_ 117
+          (List._∷_ 115 (List._∷_ 97 (List._∷_ 108 (List._∷_ 58 (List._∷_ 58 (List._∷_ 82 (List._∷_ 101 (List._∷_ 102 (List._∷_ 117 (List._∷_ 115 (List._∷_ 97 (List._∷_ 108
           List.[])))))))))))))))) (Syntax.ttcons Syntax.tnil (Syntax.ttcons Syntax.tnil (Syntax.ttcons Syntax.tnil (Syntax.ttcons Syntax.tnil (Syntax.ttcons Syntax.tnil (Syntax.ttcons
           Syntax.tnil (Syntax.ttcons Syntax.tnil (Syntax.ttcons Syntax.tnil (Syntax.ttcons Syntax.tnil (Syntax.ttcons Syntax.tnil (Syntax.ttcons Syntax.tnil (Syntax.ttcons Syntax.tnil
           Syntax.ttnil))))))))))))),
@@ -2049,163 +2088,110 @@ t34 = List._∷_ (0, Rows'.whole (Declared.row Answer.the-type)) (List._∷_ (
           (Syntax.tyInt Syntax.w32) 3)),
     ) List.[])))))))))))))))
 
-abbrev pub t35 : List.List Row.Entry
-t35 = List._∷_ (0, Rows'.whole (Declared.row Answer.the-type)) (List._∷_ (
-  1,
-  Rows'.any-gone (Syntax.tyStruct (List._∷_ 103 (List._∷_ 114 (List._∷_ 101 (List._∷_ 101 (List._∷_ 110
-      (List._∷_ 119 (List._∷_ 97 (List._∷_ 108 (List._∷_ 100 (List._∷_ 95 (List._∷_ 107 (List._∷_ 104 (List._∷_ 97 (List._∷_ 110 (List._∷_ 110 (List._∷_ 97 (List._∷_ 58 (List._∷_ 58
-      (List._∷_ 83 (List._∷_ 116 (List._∷_ 114 (List._∷_ 101 (List._∷_ 97 (List._∷_ 109 List.[])))))))))))))))))))))))) (Syntax.tcons (Syntax.tyStruct (List._∷_ 102 (List._∷_ 114
-      (List._∷_ 97 (List._∷_ 99 (List._∷_ 116 (List._∷_ 105 (List._∷_ 111 (List._∷_ 110 (List._∷_ 58 (List._∷_ 58 (List._∷_ 70 (List._∷_ 114 (List._∷_ 97 (List._∷_ 99 (List._∷_ 116
-      (List._∷_ 105 (List._∷_ 111 (List._∷_ 110 List.[])))))))))))))))))) (Syntax.tcons (Syntax.tyInt Syntax.w32) (Syntax.tcons (Syntax.tyInt Syntax.w32) Syntax.tnil))) (Syntax.tcons
-      (Syntax.tyInt Syntax.w32) (Syntax.tcons (Syntax.tyInt Syntax.w32) Syntax.tnil)))),
-) (List._∷_ (2, Rows'.sslice Of.R (Syntax.tyRef (Syntax.named 0) Syntax.imm Of.tyBy) 0)
-    (List._∷_ (
-      3,
-      Rows'.any-gone (Syntax.tyEnum (List._∷_ 103 (List._∷_ 114 (List._∷_ 101 (List._∷_ 101 (List._∷_ 110 (List._∷_ 119 (List._∷_ 97 (List._∷_ 108 (List._∷_ 100
-          (List._∷_ 95 (List._∷_ 107 (List._∷_ 104 (List._∷_ 97 (List._∷_ 110 (List._∷_ 110 (List._∷_ 97 (List._∷_ 95 (List._∷_ 102 (List._∷_ 97 (List._∷_ 99 (List._∷_ 101 (List._∷_ 58
-          (List._∷_ 58 (List._∷_ 112 (List._∷_ 97 (List._∷_ 114 (List._∷_ 116 (List._∷_ 115 (List._∷_ 58 (List._∷_ 58 (List._∷_ 81 (List._∷_ 117 (List._∷_ 101 (List._∷_ 115 (List._∷_ 116
-          (List._∷_ 105 (List._∷_ 111 (List._∷_ 110 List.[])))))))))))))))))))))))))))))))))))))) (Syntax.ttcons (Syntax.tcons (Syntax.tyStruct (List._∷_ 102 (List._∷_ 114 (List._∷_ 97
-          (List._∷_ 99 (List._∷_ 116 (List._∷_ 105 (List._∷_ 111 (List._∷_ 110 (List._∷_ 58 (List._∷_ 58 (List._∷_ 70 (List._∷_ 114 (List._∷_ 97 (List._∷_ 99 (List._∷_ 116 (List._∷_ 105
-          (List._∷_ 111 (List._∷_ 110 List.[])))))))))))))))))) (Syntax.tcons (Syntax.tyInt Syntax.w32) (Syntax.tcons (Syntax.tyInt Syntax.w32) Syntax.tnil))) Syntax.tnil) (Syntax.ttcons
-          Syntax.tnil (Syntax.ttcons Syntax.tnil (Syntax.ttcons Syntax.tnil Syntax.ttnil))))),
-    ) (List._∷_ (4, Rows'.any-gone (Syntax.tyInt Syntax.w64)) (List._∷_ (
-      5,
-      Rows'.sc-here
-          (Row.sInt Syntax.w64),
-    ) (List._∷_ (6, Rows'.any-gone (Syntax.tyArray (Syntax.tyArray (Syntax.tyInt Syntax.w32) 3) 256)) (List._∷_ (
-      7,
-      Rows.arr-owed (Array'.Array
-          (Referent.rtF (Referent.fInt Syntax.w32)) 3) 4096 2,
-    ) (List._∷_ (8, Rows'.any-gone Syntax.tyBool) (List._∷_ (
-      9,
-      Rows'.any-gone (Syntax.tyEnum (List._∷_ 114 (List._∷_ 101
-          (List._∷_ 102 (List._∷_ 117 (List._∷_ 115 (List._∷_ 97 (List._∷_ 108 (List._∷_ 58 (List._∷_ 58 (List._∷_ 82 (List._∷_ 101 (List._∷_ 102 (List._∷_ 117 (List._∷_ 115 (List._∷_ 97
-          (List._∷_ 108 List.[])))))))))))))))) (Syntax.ttcons Syntax.tnil (Syntax.ttcons Syntax.tnil (Syntax.ttcons Syntax.tnil (Syntax.ttcons Syntax.tnil (Syntax.ttcons Syntax.tnil
-          (Syntax.ttcons Syntax.tnil (Syntax.ttcons Syntax.tnil (Syntax.ttcons Syntax.tnil (Syntax.ttcons Syntax.tnil (Syntax.ttcons Syntax.tnil (Syntax.ttcons Syntax.tnil (Syntax.ttcons
-          Syntax.tnil Syntax.ttnil))))))))))))),
-    ) (List._∷_ (10, Rows'.any-gone (Syntax.tyArray (Syntax.tyInt Syntax.w32) 3)) (List._∷_ (
-      11,
-      Rows'.any-gone (Syntax.tyRef Syntax.erased
-          Syntax.mut (Syntax.tyArray (Syntax.tyArray (Syntax.tyInt Syntax.w32) 3) 256)),
-    ) (List._∷_ (
-      12,
-      Rows'.any-gone (Syntax.tyStruct (List._∷_ 38 (List._∷_ 91 (List._∷_ 93
-          List.[]))) (Syntax.tcons (Syntax.tyRef Syntax.erased Syntax.mut (Syntax.tyArray (Syntax.tyInt Syntax.w32) 3)) (Syntax.tcons (Syntax.tyInt Syntax.w64) Syntax.tnil))),
-    )
-    (List._∷_ (13, Rows'.any-gone (Syntax.tyArray (Syntax.tyInt Syntax.w32) 3)) (List._∷_ (
-      14,
-      Rows'.any-gone (Syntax.tyRef Syntax.erased Syntax.mut (Syntax.tyArray
-          (Syntax.tyArray (Syntax.tyInt Syntax.w32) 3) 4096)),
-    ) (List._∷_ (
-      15,
-      Mut.msleft (Array'.Array (Referent.rtF (Referent.fInt Syntax.w32)) 3) (Syntax.tyRef Syntax.erased
-          Syntax.mut (Syntax.tyArray (Syntax.tyInt Syntax.w32) 3)),
-    ) List.[])))))))))))))))
-
 abbrev pub t36 : List.List Row.Entry
 t36 = List._∷_ (0, Rows'.whole (Declared.row Answer.the-type)) (List._∷_ (
   1,
   Rows'.any-gone (Syntax.tyStruct (List._∷_ 103 (List._∷_ 114 (List._∷_ 101 (List._∷_ 101 (List._∷_ 110
-      (List._∷_ 119 (List._∷_ 97 (List._∷_ 108 (List._∷_ 100 (List._∷_ 95 (List._∷_ 107 (List._∷_ 104 (List._∷_ 97 (List._∷_ 110 (List._∷_ 110 (List._∷_ 97 (List._∷_ 58 (List._∷_ 58
-      (List._∷_ 83 (List._∷_ 116 (List._∷_ 114 (List._∷_ 101 (List._∷_ 97 (List._∷_ 109 List.[])))))))))))))))))))))))) (Syntax.tcons (Syntax.tyStruct (List._∷_ 102 (List._∷_ 114
-      (List._∷_ 97 (List._∷_ 99 (List._∷_ 116 (List._∷_ 105 (List._∷_ 111 (List._∷_ 110 (List._∷_ 58 (List._∷_ 58 (List._∷_ 70 (List._∷_ 114 (List._∷_ 97 (List._∷_ 99 (List._∷_ 116
-      (List._∷_ 105 (List._∷_ 111 (List._∷_ 110 List.[])))))))))))))))))) (Syntax.tcons (Syntax.tyInt Syntax.w32) (Syntax.tcons (Syntax.tyInt Syntax.w32) Syntax.tnil))) (Syntax.tcons
-      (Syntax.tyInt Syntax.w32) (Syntax.tcons (Syntax.tyInt Syntax.w32) Syntax.tnil)))),
-) (List._∷_ (2, Rows'.sslice Of.R (Syntax.tyRef (Syntax.named 0) Syntax.imm Of.tyBy) 0)
-    (List._∷_ (
-      3,
-      Rows'.any-gone (Syntax.tyEnum (List._∷_ 103 (List._∷_ 114 (List._∷_ 101 (List._∷_ 101 (List._∷_ 110 (List._∷_ 119 (List._∷_ 97 (List._∷_ 108 (List._∷_ 100
-          (List._∷_ 95 (List._∷_ 107 (List._∷_ 104 (List._∷_ 97 (List._∷_ 110 (List._∷_ 110 (List._∷_ 97 (List._∷_ 95 (List._∷_ 102 (List._∷_ 97 (List._∷_ 99 (List._∷_ 101 (List._∷_ 58
-          (List._∷_ 58 (List._∷_ 112 (List._∷_ 97 (List._∷_ 114 (List._∷_ 116 (List._∷_ 115 (List._∷_ 58 (List._∷_ 58 (List._∷_ 81 (List._∷_ 117 (List._∷_ 101 (List._∷_ 115 (List._∷_ 116
-          (List._∷_ 105 (List._∷_ 111 (List._∷_ 110 List.[])))))))))))))))))))))))))))))))))))))) (Syntax.ttcons (Syntax.tcons (Syntax.tyStruct (List._∷_ 102 (List._∷_ 114 (List._∷_ 97
-          (List._∷_ 99 (List._∷_ 116 (List._∷_ 105 (List._∷_ 111 (List._∷_ 110 (List._∷_ 58 (List._∷_ 58 (List._∷_ 70 (List._∷_ 114 (List._∷_ 97 (List._∷_ 99 (List._∷_ 116 (List._∷_ 105
-          (List._∷_ 111 (List._∷_ 110 List.[])))))))))))))))))) (Syntax.tcons (Syntax.tyInt Syntax.w32) (Syntax.tcons (Syntax.tyInt Syntax.w32) Syntax.tnil))) Syntax.tnil) (Syntax.ttcons
-          Syntax.tnil (Syntax.ttcons Syntax.tnil (Syntax.ttcons Syntax.tnil Syntax.ttnil))))),
-    ) (List._∷_ (4, Rows'.any-gone (Syntax.tyInt Syntax.w64)) (List._∷_ (
-      5,
-      Rows'.any-gone
-          (Syntax.tyInt Syntax.w64),
-    ) (List._∷_ (6, Rows'.any-gone (Syntax.tyArray (Syntax.tyArray (Syntax.tyInt Syntax.w32) 3) 256)) (List._∷_ (
+      (List._∷_ 119 (List._∷_ 97 (List._∷_ 108 (List._∷_ 100 (List._∷_ 95 (List._∷_ 107 (List._∷_ 104 (List._∷_ 97 (List._∷_ 110 (List._∷_ 110 (List._∷_ 97 (List._∷_ 95 (List._∷_ 115
+      (List._∷_ 116 (List._∷_ 101 (List._∷_ 112 (List._∷_ 115 (List._∷_ 58 (List._∷_ 58 (List._∷_ 83 (List._∷_ 116 (List._∷_ 114 (List._∷_ 101 (List._∷_ 97 (List._∷_ 109
+      List.[])))))))))))))))))))))))))))))) (Syntax.tcons (Syntax.tyStruct (List._∷_ 102 (List._∷_ 114 (List._∷_ 97 (List._∷_ 99 (List._∷_ 116 (List._∷_ 105 (List._∷_ 111 (List._∷_
+      110 (List._∷_ 58 (List._∷_ 58 (List._∷_ 70 (List._∷_ 114 (List._∷_ 97 (List._∷_ 99 (List._∷_ 116 (List._∷_ 105 (List._∷_ 111 (List._∷_ 110 List.[]))))))))))))))))))
+      (Syntax.tcons (Syntax.tyInt Syntax.w32) (Syntax.tcons (Syntax.tyInt Syntax.w32) Syntax.tnil))) (Syntax.tcons (Syntax.tyInt Syntax.w32) (Syntax.tcons (Syntax.tyInt Syntax.w32)
+      Syntax.tnil)))),
+) (List._∷_ (2, Rows'.sslice Of.R (Syntax.tyRef (Syntax.named 0) Syntax.imm Of.tyBy) 0) (List._∷_ (
+  3,
+  Rows'.any-gone (Syntax.tyEnum (List._∷_ 103 (List._∷_
+      114 (List._∷_ 101 (List._∷_ 101 (List._∷_ 110 (List._∷_ 119 (List._∷_ 97 (List._∷_ 108 (List._∷_ 100 (List._∷_ 95 (List._∷_ 107 (List._∷_ 104 (List._∷_ 97 (List._∷_ 110
+      (List._∷_ 110 (List._∷_ 97 (List._∷_ 95 (List._∷_ 102 (List._∷_ 97 (List._∷_ 99 (List._∷_ 101 (List._∷_ 58 (List._∷_ 58 (List._∷_ 112 (List._∷_ 97 (List._∷_ 114 (List._∷_ 116
+      (List._∷_ 115 (List._∷_ 58 (List._∷_ 58 (List._∷_ 81 (List._∷_ 117 (List._∷_ 101 (List._∷_ 115 (List._∷_ 116 (List._∷_ 105 (List._∷_ 111 (List._∷_ 110
+      List.[])))))))))))))))))))))))))))))))))))))) (Syntax.ttcons (Syntax.tcons (Syntax.tyStruct (List._∷_ 102 (List._∷_ 114 (List._∷_ 97 (List._∷_ 99 (List._∷_ 116 (List._∷_ 105
+      (List._∷_ 111 (List._∷_ 110 (List._∷_ 58 (List._∷_ 58 (List._∷_ 70 (List._∷_ 114 (List._∷_ 97 (List._∷_ 99 (List._∷_ 116 (List._∷_ 105 (List._∷_ 111 (List._∷_ 110
+      List.[])))))))))))))))))) (Syntax.tcons (Syntax.tyInt Syntax.w32) (Syntax.tcons (Syntax.tyInt Syntax.w32) Syntax.tnil))) Syntax.tnil) (Syntax.ttcons Syntax.tnil (Syntax.ttcons
+      Syntax.tnil (Syntax.ttcons Syntax.tnil Syntax.ttnil))))),
+) (List._∷_ (4, Rows'.any-gone (Syntax.tyInt Syntax.w64)) (List._∷_ (5, Rows'.any-gone (Syntax.tyInt Syntax.w64))
+    (List._∷_ (6, Rows'.any-gone (Syntax.tyArray (Syntax.tyArray (Syntax.tyInt Syntax.w32) 3) 256)) (List._∷_ (
       7,
-      Rows.arr-owed (Array'.Array
-          (Referent.rtF (Referent.fInt Syntax.w32)) 3) 4096 2,
+      Rows.arr-owed (Array'.Array (Referent.rtF (Referent.fInt
+          Syntax.w32)) 3) 4096 2,
     ) (List._∷_ (8, Rows'.any-gone Syntax.tyBool) (List._∷_ (
       9,
-      Rows'.any-gone (Syntax.tyEnum (List._∷_ 114 (List._∷_ 101
-          (List._∷_ 102 (List._∷_ 117 (List._∷_ 115 (List._∷_ 97 (List._∷_ 108 (List._∷_ 58 (List._∷_ 58 (List._∷_ 82 (List._∷_ 101 (List._∷_ 102 (List._∷_ 117 (List._∷_ 115 (List._∷_ 97
-          (List._∷_ 108 List.[])))))))))))))))) (Syntax.ttcons Syntax.tnil (Syntax.ttcons Syntax.tnil (Syntax.ttcons Syntax.tnil (Syntax.ttcons Syntax.tnil (Syntax.ttcons Syntax.tnil
-          (Syntax.ttcons Syntax.tnil (Syntax.ttcons Syntax.tnil (Syntax.ttcons Syntax.tnil (Syntax.ttcons Syntax.tnil (Syntax.ttcons Syntax.tnil (Syntax.ttcons Syntax.tnil (Syntax.ttcons
-          Syntax.tnil Syntax.ttnil))))))))))))),
+      Rows'.any-gone (Syntax.tyEnum (List._∷_ 114 (List._∷_ 101 (List._∷_ 102 (List._∷_ 117
+          (List._∷_ 115 (List._∷_ 97 (List._∷_ 108 (List._∷_ 58 (List._∷_ 58 (List._∷_ 82 (List._∷_ 101 (List._∷_ 102 (List._∷_ 117 (List._∷_ 115 (List._∷_ 97 (List._∷_ 108
+          List.[])))))))))))))))) (Syntax.ttcons Syntax.tnil (Syntax.ttcons Syntax.tnil (Syntax.ttcons Syntax.tnil (Syntax.ttcons Syntax.tnil (Syntax.ttcons Syntax.tnil (Syntax.ttcons
+          Syntax.tnil (Syntax.ttcons Syntax.tnil (Syntax.ttcons Syntax.tnil (Syntax.ttcons Syntax.tnil (Syntax.ttcons Syntax.tnil (Syntax.ttcons Syntax.tnil (Syntax.ttcons Syntax.tnil
+          Syntax.ttnil))))))))))))),
     ) (List._∷_ (10, Rows'.any-gone (Syntax.tyArray (Syntax.tyInt Syntax.w32) 3)) (List._∷_ (
       11,
-      Rows'.any-gone (Syntax.tyRef Syntax.erased
-          Syntax.mut (Syntax.tyArray (Syntax.tyArray (Syntax.tyInt Syntax.w32) 3) 256)),
+      Rows'.any-gone (Syntax.tyRef Syntax.erased Syntax.mut
+          (Syntax.tyArray (Syntax.tyArray (Syntax.tyInt Syntax.w32) 3) 256)),
     ) (List._∷_ (
       12,
-      Rows'.any-gone (Syntax.tyStruct (List._∷_ 38 (List._∷_ 91 (List._∷_ 93
-          List.[]))) (Syntax.tcons (Syntax.tyRef Syntax.erased Syntax.mut (Syntax.tyArray (Syntax.tyInt Syntax.w32) 3)) (Syntax.tcons (Syntax.tyInt Syntax.w64) Syntax.tnil))),
-    )
-    (List._∷_ (13, Rows'.any-gone (Syntax.tyArray (Syntax.tyInt Syntax.w32) 3)) (List._∷_ (
+      Rows'.any-gone (Syntax.tyStruct (List._∷_ 38 (List._∷_ 91 (List._∷_ 93 List.[])))
+          (Syntax.tcons (Syntax.tyRef Syntax.erased Syntax.mut (Syntax.tyArray (Syntax.tyInt Syntax.w32) 3)) (Syntax.tcons (Syntax.tyInt Syntax.w64) Syntax.tnil))),
+    ) (List._∷_ (
+      13,
+      Rows'.any-gone (Syntax.tyArray (Syntax.tyInt Syntax.w32) 3),
+    ) (List._∷_ (
       14,
-      Rows'.any-gone (Syntax.tyRef Syntax.erased Syntax.mut (Syntax.tyArray
-          (Syntax.tyArray (Syntax.tyInt Syntax.w32) 3) 4096)),
+      Rows'.any-gone (Syntax.tyRef Syntax.erased Syntax.mut (Syntax.tyArray (Syntax.tyArray (Syntax.tyInt
+          Syntax.w32) 3) 4096)),
     ) (List._∷_ (
       15,
-      Mut.msleft (Array'.Array (Referent.rtF (Referent.fInt Syntax.w32)) 3) (Syntax.tyRef Syntax.erased
-          Syntax.mut (Syntax.tyArray (Syntax.tyInt Syntax.w32) 3)),
+      Mut.msleft (Array'.Array (Referent.rtF (Referent.fInt Syntax.w32)) 3) (Syntax.tyRef Syntax.erased Syntax.mut (Syntax.tyArray
+          (Syntax.tyInt Syntax.w32) 3)),
     ) List.[])))))))))))))))
 
 abbrev pub t37 : List.List Row.Entry
 t37 = List._∷_ (0, Rows'.whole (Declared.row Answer.the-type)) (List._∷_ (
   1,
   Rows'.any-gone (Syntax.tyStruct (List._∷_ 103 (List._∷_ 114 (List._∷_ 101 (List._∷_ 101 (List._∷_ 110
-      (List._∷_ 119 (List._∷_ 97 (List._∷_ 108 (List._∷_ 100 (List._∷_ 95 (List._∷_ 107 (List._∷_ 104 (List._∷_ 97 (List._∷_ 110 (List._∷_ 110 (List._∷_ 97 (List._∷_ 58 (List._∷_ 58
-      (List._∷_ 83 (List._∷_ 116 (List._∷_ 114 (List._∷_ 101 (List._∷_ 97 (List._∷_ 109 List.[])))))))))))))))))))))))) (Syntax.tcons (Syntax.tyStruct (List._∷_ 102 (List._∷_ 114
-      (List._∷_ 97 (List._∷_ 99 (List._∷_ 116 (List._∷_ 105 (List._∷_ 111 (List._∷_ 110 (List._∷_ 58 (List._∷_ 58 (List._∷_ 70 (List._∷_ 114 (List._∷_ 97 (List._∷_ 99 (List._∷_ 116
-      (List._∷_ 105 (List._∷_ 111 (List._∷_ 110 List.[])))))))))))))))))) (Syntax.tcons (Syntax.tyInt Syntax.w32) (Syntax.tcons (Syntax.tyInt Syntax.w32) Syntax.tnil))) (Syntax.tcons
-      (Syntax.tyInt Syntax.w32) (Syntax.tcons (Syntax.tyInt Syntax.w32) Syntax.tnil)))),
-) (List._∷_ (2, Rows'.sslice Of.R (Syntax.tyRef (Syntax.named 0) Syntax.imm Of.tyBy) 0)
-    (List._∷_ (
-      3,
-      Rows'.any-gone (Syntax.tyEnum (List._∷_ 103 (List._∷_ 114 (List._∷_ 101 (List._∷_ 101 (List._∷_ 110 (List._∷_ 119 (List._∷_ 97 (List._∷_ 108 (List._∷_ 100
-          (List._∷_ 95 (List._∷_ 107 (List._∷_ 104 (List._∷_ 97 (List._∷_ 110 (List._∷_ 110 (List._∷_ 97 (List._∷_ 95 (List._∷_ 102 (List._∷_ 97 (List._∷_ 99 (List._∷_ 101 (List._∷_ 58
-          (List._∷_ 58 (List._∷_ 112 (List._∷_ 97 (List._∷_ 114 (List._∷_ 116 (List._∷_ 115 (List._∷_ 58 (List._∷_ 58 (List._∷_ 81 (List._∷_ 117 (List._∷_ 101 (List._∷_ 115 (List._∷_ 116
-          (List._∷_ 105 (List._∷_ 111 (List._∷_ 110 List.[])))))))))))))))))))))))))))))))))))))) (Syntax.ttcons (Syntax.tcons (Syntax.tyStruct (List._∷_ 102 (List._∷_ 114 (List._∷_ 97
-          (List._∷_ 99 (List._∷_ 116 (List._∷_ 105 (List._∷_ 111 (List._∷_ 110 (List._∷_ 58 (List._∷_ 58 (List._∷_ 70 (List._∷_ 114 (List._∷_ 97 (List._∷_ 99 (List._∷_ 116 (List._∷_ 105
-          (List._∷_ 111 (List._∷_ 110 List.[])))))))))))))))))) (Syntax.tcons (Syntax.tyInt Syntax.w32) (Syntax.tcons (Syntax.tyInt Syntax.w32) Syntax.tnil))) Syntax.tnil) (Syntax.ttcons
-          Syntax.tnil (Syntax.ttcons Syntax.tnil (Syntax.ttcons Syntax.tnil Syntax.ttnil))))),
-    ) (List._∷_ (4, Rows'.any-gone (Syntax.tyInt Syntax.w64)) (List._∷_ (
-      5,
-      Rows'.any-gone
-          (Syntax.tyInt Syntax.w64),
-    ) (List._∷_ (6, Rows'.any-gone (Syntax.tyArray (Syntax.tyArray (Syntax.tyInt Syntax.w32) 3) 256)) (List._∷_ (
+      (List._∷_ 119 (List._∷_ 97 (List._∷_ 108 (List._∷_ 100 (List._∷_ 95 (List._∷_ 107 (List._∷_ 104 (List._∷_ 97 (List._∷_ 110 (List._∷_ 110 (List._∷_ 97 (List._∷_ 95 (List._∷_ 115
+      (List._∷_ 116 (List._∷_ 101 (List._∷_ 112 (List._∷_ 115 (List._∷_ 58 (List._∷_ 58 (List._∷_ 83 (List._∷_ 116 (List._∷_ 114 (List._∷_ 101 (List._∷_ 97 (List._∷_ 109
+      List.[])))))))))))))))))))))))))))))) (Syntax.tcons (Syntax.tyStruct (List._∷_ 102 (List._∷_ 114 (List._∷_ 97 (List._∷_ 99 (List._∷_ 116 (List._∷_ 105 (List._∷_ 111 (List._∷_
+      110 (List._∷_ 58 (List._∷_ 58 (List._∷_ 70 (List._∷_ 114 (List._∷_ 97 (List._∷_ 99 (List._∷_ 116 (List._∷_ 105 (List._∷_ 111 (List._∷_ 110 List.[]))))))))))))))))))
+      (Syntax.tcons (Syntax.tyInt Syntax.w32) (Syntax.tcons (Syntax.tyInt Syntax.w32) Syntax.tnil))) (Syntax.tcons (Syntax.tyInt Syntax.w32) (Syntax.tcons (Syntax.tyInt Syntax.w32)
+      Syntax.tnil)))),
+) (List._∷_ (2, Rows'.sslice Of.R (Syntax.tyRef (Syntax.named 0) Syntax.imm Of.tyBy) 0) (List._∷_ (
+  3,
+  Rows'.any-gone (Syntax.tyEnum (List._∷_ 103 (List._∷_
+      114 (List._∷_ 101 (List._∷_ 101 (List._∷_ 110 (List._∷_ 119 (List._∷_ 97 (List._∷_ 108 (List._∷_ 100 (List._∷_ 95 (List._∷_ 107 (List._∷_ 104 (List._∷_ 97 (List._∷_ 110
+      (List._∷_ 110 (List._∷_ 97 (List._∷_ 95 (List._∷_ 102 (List._∷_ 97 (List._∷_ 99 (List._∷_ 101 (List._∷_ 58 (List._∷_ 58 (List._∷_ 112 (List._∷_ 97 (List._∷_ 114 (List._∷_ 116
+      (List._∷_ 115 (List._∷_ 58 (List._∷_ 58 (List._∷_ 81 (List._∷_ 117 (List._∷_ 101 (List._∷_ 115 (List._∷_ 116 (List._∷_ 105 (List._∷_ 111 (List._∷_ 110
+      List.[])))))))))))))))))))))))))))))))))))))) (Syntax.ttcons (Syntax.tcons (Syntax.tyStruct (List._∷_ 102 (List._∷_ 114 (List._∷_ 97 (List._∷_ 99 (List._∷_ 116 (List._∷_ 105
+      (List._∷_ 111 (List._∷_ 110 (List._∷_ 58 (List._∷_ 58 (List._∷_ 70 (List._∷_ 114 (List._∷_ 97 (List._∷_ 99 (List._∷_ 116 (List._∷_ 105 (List._∷_ 111 (List._∷_ 110
+      List.[])))))))))))))))))) (Syntax.tcons (Syntax.tyInt Syntax.w32) (Syntax.tcons (Syntax.tyInt Syntax.w32) Syntax.tnil))) Syntax.tnil) (Syntax.ttcons Syntax.tnil (Syntax.ttcons
+      Syntax.tnil (Syntax.ttcons Syntax.tnil Syntax.ttnil))))),
+) (List._∷_ (4, Rows'.any-gone (Syntax.tyInt Syntax.w64)) (List._∷_ (5, Rows'.any-gone (Syntax.tyInt Syntax.w64))
+    (List._∷_ (6, Rows'.any-gone (Syntax.tyArray (Syntax.tyArray (Syntax.tyInt Syntax.w32) 3) 256)) (List._∷_ (
       7,
-      Rows.arrF (Array'.Array
-          (Referent.rtF (Referent.fInt Syntax.w32)) 3) 4096 0,
+      Rows.arrF (Array'.Array (Referent.rtF (Referent.fInt
+          Syntax.w32)) 3) 4096 0,
     ) (List._∷_ (8, Rows'.any-gone Syntax.tyBool) (List._∷_ (
       9,
-      Rows'.any-gone (Syntax.tyEnum (List._∷_ 114 (List._∷_ 101
-          (List._∷_ 102 (List._∷_ 117 (List._∷_ 115 (List._∷_ 97 (List._∷_ 108 (List._∷_ 58 (List._∷_ 58 (List._∷_ 82 (List._∷_ 101 (List._∷_ 102 (List._∷_ 117 (List._∷_ 115 (List._∷_ 97
-          (List._∷_ 108 List.[])))))))))))))))) (Syntax.ttcons Syntax.tnil (Syntax.ttcons Syntax.tnil (Syntax.ttcons Syntax.tnil (Syntax.ttcons Syntax.tnil (Syntax.ttcons Syntax.tnil
-          (Syntax.ttcons Syntax.tnil (Syntax.ttcons Syntax.tnil (Syntax.ttcons Syntax.tnil (Syntax.ttcons Syntax.tnil (Syntax.ttcons Syntax.tnil (Syntax.ttcons Syntax.tnil (Syntax.ttcons
-          Syntax.tnil Syntax.ttnil))))))))))))),
+      Rows'.any-gone (Syntax.tyEnum (List._∷_ 114 (List._∷_ 101 (List._∷_ 102 (List._∷_ 117
+          (List._∷_ 115 (List._∷_ 97 (List._∷_ 108 (List._∷_ 58 (List._∷_ 58 (List._∷_ 82 (List._∷_ 101 (List._∷_ 102 (List._∷_ 117 (List._∷_ 115 (List._∷_ 97 (List._∷_ 108
+          List.[])))))))))))))))) (Syntax.ttcons Syntax.tnil (Syntax.ttcons Syntax.tnil (Syntax.ttcons Syntax.tnil (Syntax.ttcons Syntax.tnil (Syntax.ttcons Syntax.tnil (Syntax.ttcons
+          Syntax.tnil (Syntax.ttcons Syntax.tnil (Syntax.ttcons Syntax.tnil (Syntax.ttcons Syntax.tnil (Syntax.ttcons Syntax.tnil (Syntax.ttcons Syntax.tnil (Syntax.ttcons Syntax.tnil
+          Syntax.ttnil))))))))))))),
     ) (List._∷_ (10, Rows'.any-gone (Syntax.tyArray (Syntax.tyInt Syntax.w32) 3)) (List._∷_ (
       11,
-      Rows'.any-gone (Syntax.tyRef Syntax.erased
-          Syntax.mut (Syntax.tyArray (Syntax.tyArray (Syntax.tyInt Syntax.w32) 3) 256)),
+      Rows'.any-gone (Syntax.tyRef Syntax.erased Syntax.mut
+          (Syntax.tyArray (Syntax.tyArray (Syntax.tyInt Syntax.w32) 3) 256)),
     ) (List._∷_ (
       12,
-      Rows'.any-gone (Syntax.tyStruct (List._∷_ 38 (List._∷_ 91 (List._∷_ 93
-          List.[]))) (Syntax.tcons (Syntax.tyRef Syntax.erased Syntax.mut (Syntax.tyArray (Syntax.tyInt Syntax.w32) 3)) (Syntax.tcons (Syntax.tyInt Syntax.w64) Syntax.tnil))),
-    )
-    (List._∷_ (13, Rows'.any-gone (Syntax.tyArray (Syntax.tyInt Syntax.w32) 3)) (List._∷_ (
+      Rows'.any-gone (Syntax.tyStruct (List._∷_ 38 (List._∷_ 91 (List._∷_ 93 List.[])))
+          (Syntax.tcons (Syntax.tyRef Syntax.erased Syntax.mut (Syntax.tyArray (Syntax.tyInt Syntax.w32) 3)) (Syntax.tcons (Syntax.tyInt Syntax.w64) Syntax.tnil))),
+    ) (List._∷_ (
+      13,
+      Rows'.any-gone (Syntax.tyArray (Syntax.tyInt Syntax.w32) 3),
+    ) (List._∷_ (
       14,
-      Rows'.any-gone (Syntax.tyRef Syntax.erased Syntax.mut (Syntax.tyArray
-          (Syntax.tyArray (Syntax.tyInt Syntax.w32) 3) 4096)),
+      Rows'.any-gone (Syntax.tyRef Syntax.erased Syntax.mut (Syntax.tyArray (Syntax.tyArray (Syntax.tyInt
+          Syntax.w32) 3) 4096)),
     ) (List._∷_ (
       15,
-      Rows'.any-gone (Syntax.tyStruct (List._∷_ 38 (List._∷_ 91 (List._∷_ 93 List.[]))) (Syntax.tcons
-          (Syntax.tyRef Syntax.erased Syntax.mut (Syntax.tyArray (Syntax.tyInt Syntax.w32) 3)) (Syntax.tcons (Syntax.tyInt Syntax.w64) Syntax.tnil))),
+      Rows'.any-gone (Syntax.tyStruct (List._∷_ 38 (List._∷_ 91 (List._∷_ 93 List.[]))) (Syntax.tcons (Syntax.tyRef Syntax.erased Syntax.mut
+          (Syntax.tyArray (Syntax.tyInt Syntax.w32) 3)) (Syntax.tcons (Syntax.tyInt Syntax.w64) Syntax.tnil))),
     ) List.[])))))))))))))))
 
 abbrev pub T0 : Row.Cx
@@ -2366,11 +2352,11 @@ module _ (claims· : Claims) where
 
   abbrev s2 : (bs : List.List Nat.ℕ) → Typed.Mo T3 → Typed.Mo T5
   s2 = λ bs. Scalar.n-room T3 1 (Syntax.tyStruct (List._∷_ 103 (List._∷_ 114 (List._∷_ 101 (List._∷_ 101 (List._∷_ 110 (List._∷_ 119 (List._∷_ 97 (List._∷_ 108 (List._∷_ 100
-      (List._∷_ 95 (List._∷_ 107 (List._∷_ 104 (List._∷_ 97 (List._∷_ 110 (List._∷_ 110 (List._∷_ 97 (List._∷_ 58 (List._∷_ 58 (List._∷_ 83 (List._∷_ 116 (List._∷_ 114 (List._∷_
-      101 (List._∷_ 97 (List._∷_ 109 List.[])))))))))))))))))))))))) (Syntax.tcons (Syntax.tyStruct (List._∷_ 102 (List._∷_ 114 (List._∷_ 97 (List._∷_ 99 (List._∷_ 116 (List._∷_
-      105 (List._∷_ 111 (List._∷_ 110 (List._∷_ 58 (List._∷_ 58 (List._∷_ 70 (List._∷_ 114 (List._∷_ 97 (List._∷_ 99 (List._∷_ 116 (List._∷_ 105 (List._∷_ 111 (List._∷_ 110
-      List.[])))))))))))))))))) (Syntax.tcons (Syntax.tyInt Syntax.w32) (Syntax.tcons (Syntax.tyInt Syntax.w32) Syntax.tnil))) (Syntax.tcons (Syntax.tyInt Syntax.w32) (Syntax.tcons
-      (Syntax.tyInt Syntax.w32) Syntax.tnil))))
+      (List._∷_ 95 (List._∷_ 107 (List._∷_ 104 (List._∷_ 97 (List._∷_ 110 (List._∷_ 110 (List._∷_ 97 (List._∷_ 95 (List._∷_ 115 (List._∷_ 116 (List._∷_ 101 (List._∷_ 112 (List._∷_
+      115 (List._∷_ 58 (List._∷_ 58 (List._∷_ 83 (List._∷_ 116 (List._∷_ 114 (List._∷_ 101 (List._∷_ 97 (List._∷_ 109 List.[])))))))))))))))))))))))))))))) (Syntax.tcons
+      (Syntax.tyStruct (List._∷_ 102 (List._∷_ 114 (List._∷_ 97 (List._∷_ 99 (List._∷_ 116 (List._∷_ 105 (List._∷_ 111 (List._∷_ 110 (List._∷_ 58 (List._∷_ 58 (List._∷_ 70
+      (List._∷_ 114 (List._∷_ 97 (List._∷_ 99 (List._∷_ 116 (List._∷_ 105 (List._∷_ 111 (List._∷_ 110 List.[])))))))))))))))))) (Syntax.tcons (Syntax.tyInt Syntax.w32)
+      (Syntax.tcons (Syntax.tyInt Syntax.w32) Syntax.tnil))) (Syntax.tcons (Syntax.tyInt Syntax.w32) (Syntax.tcons (Syntax.tyInt Syntax.w32) Syntax.tnil))))
 
   abbrev s3 : (bs : List.List Nat.ℕ) → Typed.Mo T5 → Typed.Mo T6
   s3 = λ bs. Scalar.n-room T5 3 (Syntax.tyEnum (List._∷_ 103 (List._∷_ 114 (List._∷_ 101 (List._∷_ 101 (List._∷_ 110 (List._∷_ 119 (List._∷_ 97 (List._∷_ 108 (List._∷_ 100
@@ -2470,11 +2456,11 @@ module _ (claims· : Claims) where
 
   abbrev s22 : (bs : List.List Nat.ℕ) → Typed.Mo T25 → Typed.Mo T26
   s22 = λ bs. Scalar.n-room T25 1 (Syntax.tyStruct (List._∷_ 103 (List._∷_ 114 (List._∷_ 101 (List._∷_ 101 (List._∷_ 110 (List._∷_ 119 (List._∷_ 97 (List._∷_ 108 (List._∷_ 100
-      (List._∷_ 95 (List._∷_ 107 (List._∷_ 104 (List._∷_ 97 (List._∷_ 110 (List._∷_ 110 (List._∷_ 97 (List._∷_ 58 (List._∷_ 58 (List._∷_ 83 (List._∷_ 116 (List._∷_ 114 (List._∷_
-      101 (List._∷_ 97 (List._∷_ 109 List.[])))))))))))))))))))))))) (Syntax.tcons (Syntax.tyStruct (List._∷_ 102 (List._∷_ 114 (List._∷_ 97 (List._∷_ 99 (List._∷_ 116 (List._∷_
-      105 (List._∷_ 111 (List._∷_ 110 (List._∷_ 58 (List._∷_ 58 (List._∷_ 70 (List._∷_ 114 (List._∷_ 97 (List._∷_ 99 (List._∷_ 116 (List._∷_ 105 (List._∷_ 111 (List._∷_ 110
-      List.[])))))))))))))))))) (Syntax.tcons (Syntax.tyInt Syntax.w32) (Syntax.tcons (Syntax.tyInt Syntax.w32) Syntax.tnil))) (Syntax.tcons (Syntax.tyInt Syntax.w32) (Syntax.tcons
-      (Syntax.tyInt Syntax.w32) Syntax.tnil))))
+      (List._∷_ 95 (List._∷_ 107 (List._∷_ 104 (List._∷_ 97 (List._∷_ 110 (List._∷_ 110 (List._∷_ 97 (List._∷_ 95 (List._∷_ 115 (List._∷_ 116 (List._∷_ 101 (List._∷_ 112 (List._∷_
+      115 (List._∷_ 58 (List._∷_ 58 (List._∷_ 83 (List._∷_ 116 (List._∷_ 114 (List._∷_ 101 (List._∷_ 97 (List._∷_ 109 List.[])))))))))))))))))))))))))))))) (Syntax.tcons
+      (Syntax.tyStruct (List._∷_ 102 (List._∷_ 114 (List._∷_ 97 (List._∷_ 99 (List._∷_ 116 (List._∷_ 105 (List._∷_ 111 (List._∷_ 110 (List._∷_ 58 (List._∷_ 58 (List._∷_ 70
+      (List._∷_ 114 (List._∷_ 97 (List._∷_ 99 (List._∷_ 116 (List._∷_ 105 (List._∷_ 111 (List._∷_ 110 List.[])))))))))))))))))) (Syntax.tcons (Syntax.tyInt Syntax.w32)
+      (Syntax.tcons (Syntax.tyInt Syntax.w32) Syntax.tnil))) (Syntax.tcons (Syntax.tyInt Syntax.w32) (Syntax.tcons (Syntax.tyInt Syntax.w32) Syntax.tnil))))
 
   abbrev s23 : (bs : List.List Nat.ℕ) → Typed.Mo T26 → Typed.Mo T27
   s23 = λ bs. Scalar.n-room T26 3 (Syntax.tyEnum (List._∷_ 103 (List._∷_ 114 (List._∷_ 101 (List._∷_ 101 (List._∷_ 110 (List._∷_ 119 (List._∷_ 97 (List._∷_ 108 (List._∷_ 100
@@ -2559,11 +2545,11 @@ module _ (claims· : Claims) where
 
   abbrev s40 : (bs : List.List Nat.ℕ) → Typed.Mo T43 → Typed.Mo T44
   s40 = λ bs. Scalar.n-room T43 1 (Syntax.tyStruct (List._∷_ 103 (List._∷_ 114 (List._∷_ 101 (List._∷_ 101 (List._∷_ 110 (List._∷_ 119 (List._∷_ 97 (List._∷_ 108 (List._∷_ 100
-      (List._∷_ 95 (List._∷_ 107 (List._∷_ 104 (List._∷_ 97 (List._∷_ 110 (List._∷_ 110 (List._∷_ 97 (List._∷_ 58 (List._∷_ 58 (List._∷_ 83 (List._∷_ 116 (List._∷_ 114 (List._∷_
-      101 (List._∷_ 97 (List._∷_ 109 List.[])))))))))))))))))))))))) (Syntax.tcons (Syntax.tyStruct (List._∷_ 102 (List._∷_ 114 (List._∷_ 97 (List._∷_ 99 (List._∷_ 116 (List._∷_
-      105 (List._∷_ 111 (List._∷_ 110 (List._∷_ 58 (List._∷_ 58 (List._∷_ 70 (List._∷_ 114 (List._∷_ 97 (List._∷_ 99 (List._∷_ 116 (List._∷_ 105 (List._∷_ 111 (List._∷_ 110
-      List.[])))))))))))))))))) (Syntax.tcons (Syntax.tyInt Syntax.w32) (Syntax.tcons (Syntax.tyInt Syntax.w32) Syntax.tnil))) (Syntax.tcons (Syntax.tyInt Syntax.w32) (Syntax.tcons
-      (Syntax.tyInt Syntax.w32) Syntax.tnil))))
+      (List._∷_ 95 (List._∷_ 107 (List._∷_ 104 (List._∷_ 97 (List._∷_ 110 (List._∷_ 110 (List._∷_ 97 (List._∷_ 95 (List._∷_ 115 (List._∷_ 116 (List._∷_ 101 (List._∷_ 112 (List._∷_
+      115 (List._∷_ 58 (List._∷_ 58 (List._∷_ 83 (List._∷_ 116 (List._∷_ 114 (List._∷_ 101 (List._∷_ 97 (List._∷_ 109 List.[])))))))))))))))))))))))))))))) (Syntax.tcons
+      (Syntax.tyStruct (List._∷_ 102 (List._∷_ 114 (List._∷_ 97 (List._∷_ 99 (List._∷_ 116 (List._∷_ 105 (List._∷_ 111 (List._∷_ 110 (List._∷_ 58 (List._∷_ 58 (List._∷_ 70
+      (List._∷_ 114 (List._∷_ 97 (List._∷_ 99 (List._∷_ 116 (List._∷_ 105 (List._∷_ 111 (List._∷_ 110 List.[])))))))))))))))))) (Syntax.tcons (Syntax.tyInt Syntax.w32)
+      (Syntax.tcons (Syntax.tyInt Syntax.w32) Syntax.tnil))) (Syntax.tcons (Syntax.tyInt Syntax.w32) (Syntax.tcons (Syntax.tyInt Syntax.w32) Syntax.tnil))))
 
   abbrev s41 : (bs : List.List Nat.ℕ) → Typed.Mo T44 → Typed.Mo T45
   s41 = λ bs. Scalar.n-room T44 3 (Syntax.tyEnum (List._∷_ 103 (List._∷_ 114 (List._∷_ 101 (List._∷_ 101 (List._∷_ 110 (List._∷_ 119 (List._∷_ 97 (List._∷_ 108 (List._∷_ 100
@@ -3089,16 +3075,17 @@ module _ (claims· : Claims) where
           d7 : Typed.Typed 𝓤 H A 𝓣 E G3 b6 Δ1 (at7 bs)
           d7 = Typed.g-pre 𝓤 H A W 𝓣 E G3 G5 b6 Δ1 (Typed.pass T3 T5 (s2 bs)) (at6 bs) (Scalar.g-room 𝓤 H A W E G3 1 (Syntax.tyStruct (List._∷_ 103 (List._∷_ 114 (List._∷_ 101
               (List._∷_ 101 (List._∷_ 110 (List._∷_ 119 (List._∷_ 97 (List._∷_ 108 (List._∷_ 100 (List._∷_ 95 (List._∷_ 107 (List._∷_ 104 (List._∷_ 97 (List._∷_ 110 (List._∷_ 110
-              (List._∷_ 97 (List._∷_ 58 (List._∷_ 58 (List._∷_ 83 (List._∷_ 116 (List._∷_ 114 (List._∷_ 101 (List._∷_ 97 (List._∷_ 109 List.[])))))))))))))))))))))))) (Syntax.tcons
-              (Syntax.tyStruct (List._∷_ 102 (List._∷_ 114 (List._∷_ 97 (List._∷_ 99 (List._∷_ 116 (List._∷_ 105 (List._∷_ 111 (List._∷_ 110 (List._∷_ 58 (List._∷_ 58 (List._∷_ 70
-              (List._∷_ 114 (List._∷_ 97 (List._∷_ 99 (List._∷_ 116 (List._∷_ 105 (List._∷_ 111 (List._∷_ 110 List.[])))))))))))))))))) (Syntax.tcons (Syntax.tyInt Syntax.w32)
-              (Syntax.tcons (Syntax.tyInt Syntax.w32) Syntax.tnil))) (Syntax.tcons (Syntax.tyInt Syntax.w32) (Syntax.tcons (Syntax.tyInt Syntax.w32) Syntax.tnil))))
-              (Local.room-whole 𝓤 H A W (Declared'.row Stream.the-type) (Syntax.tyStruct (List._∷_ 103 (List._∷_ 114 (List._∷_ 101 (List._∷_ 101 (List._∷_ 110 (List._∷_ 119
-              (List._∷_ 97 (List._∷_ 108 (List._∷_ 100 (List._∷_ 95 (List._∷_ 107 (List._∷_ 104 (List._∷_ 97 (List._∷_ 110 (List._∷_ 110 (List._∷_ 97 (List._∷_ 58 (List._∷_ 58
-              (List._∷_ 83 (List._∷_ 116 (List._∷_ 114 (List._∷_ 101 (List._∷_ 97 (List._∷_ 109 List.[])))))))))))))))))))))))) (Syntax.tcons (Syntax.tyStruct (List._∷_ 102
-              (List._∷_ 114 (List._∷_ 97 (List._∷_ 99 (List._∷_ 116 (List._∷_ 105 (List._∷_ 111 (List._∷_ 110 (List._∷_ 58 (List._∷_ 58 (List._∷_ 70 (List._∷_ 114 (List._∷_ 97
-              (List._∷_ 99 (List._∷_ 116 (List._∷_ 105 (List._∷_ 111 (List._∷_ 110 List.[])))))))))))))))))) (Syntax.tcons (Syntax.tyInt Syntax.w32) (Syntax.tcons (Syntax.tyInt
-              Syntax.w32) Syntax.tnil))) (Syntax.tcons (Syntax.tyInt Syntax.w32) (Syntax.tcons (Syntax.tyInt Syntax.w32) Syntax.tnil)))) Path'.refl)) d6
+              (List._∷_ 97 (List._∷_ 95 (List._∷_ 115 (List._∷_ 116 (List._∷_ 101 (List._∷_ 112 (List._∷_ 115 (List._∷_ 58 (List._∷_ 58 (List._∷_ 83 (List._∷_ 116 (List._∷_ 114
+              (List._∷_ 101 (List._∷_ 97 (List._∷_ 109 List.[])))))))))))))))))))))))))))))) (Syntax.tcons (Syntax.tyStruct (List._∷_ 102 (List._∷_ 114 (List._∷_ 97 (List._∷_ 99
+              (List._∷_ 116 (List._∷_ 105 (List._∷_ 111 (List._∷_ 110 (List._∷_ 58 (List._∷_ 58 (List._∷_ 70 (List._∷_ 114 (List._∷_ 97 (List._∷_ 99 (List._∷_ 116 (List._∷_ 105
+              (List._∷_ 111 (List._∷_ 110 List.[])))))))))))))))))) (Syntax.tcons (Syntax.tyInt Syntax.w32) (Syntax.tcons (Syntax.tyInt Syntax.w32) Syntax.tnil))) (Syntax.tcons
+              (Syntax.tyInt Syntax.w32) (Syntax.tcons (Syntax.tyInt Syntax.w32) Syntax.tnil)))) (Local.room-whole 𝓤 H A W (Declared'.row Stream.the-type) (Syntax.tyStruct (List._∷_
+              103 (List._∷_ 114 (List._∷_ 101 (List._∷_ 101 (List._∷_ 110 (List._∷_ 119 (List._∷_ 97 (List._∷_ 108 (List._∷_ 100 (List._∷_ 95 (List._∷_ 107 (List._∷_ 104 (List._∷_
+              97 (List._∷_ 110 (List._∷_ 110 (List._∷_ 97 (List._∷_ 95 (List._∷_ 115 (List._∷_ 116 (List._∷_ 101 (List._∷_ 112 (List._∷_ 115 (List._∷_ 58 (List._∷_ 58 (List._∷_ 83
+              (List._∷_ 116 (List._∷_ 114 (List._∷_ 101 (List._∷_ 97 (List._∷_ 109 List.[])))))))))))))))))))))))))))))) (Syntax.tcons (Syntax.tyStruct (List._∷_ 102 (List._∷_ 114
+              (List._∷_ 97 (List._∷_ 99 (List._∷_ 116 (List._∷_ 105 (List._∷_ 111 (List._∷_ 110 (List._∷_ 58 (List._∷_ 58 (List._∷_ 70 (List._∷_ 114 (List._∷_ 97 (List._∷_ 99
+              (List._∷_ 116 (List._∷_ 105 (List._∷_ 111 (List._∷_ 110 List.[])))))))))))))))))) (Syntax.tcons (Syntax.tyInt Syntax.w32) (Syntax.tcons (Syntax.tyInt Syntax.w32)
+              Syntax.tnil))) (Syntax.tcons (Syntax.tyInt Syntax.w32) (Syntax.tcons (Syntax.tyInt Syntax.w32) Syntax.tnil)))) Path'.refl)) d6
 
           d8 : Typed.Typed 𝓤 H A 𝓣 E G12 b7 Δ1 (at8 bs)
           d8 = Typed.t-skip 𝓤 H A W 𝓣 E Δ1 tt
@@ -3156,16 +3143,17 @@ module _ (claims· : Claims) where
           d19 : Typed.Typed 𝓤 H A 𝓣 E G25 b16 Δ2 (at19 bs)
           d19 = Typed.g-pre 𝓤 H A W 𝓣 E G25 G26 b16 Δ2 (Typed.pass T25 T26 (s22 bs)) (at18 bs) (Scalar.g-room 𝓤 H A W E G25 1 (Syntax.tyStruct (List._∷_ 103 (List._∷_ 114 (List._∷_
               101 (List._∷_ 101 (List._∷_ 110 (List._∷_ 119 (List._∷_ 97 (List._∷_ 108 (List._∷_ 100 (List._∷_ 95 (List._∷_ 107 (List._∷_ 104 (List._∷_ 97 (List._∷_ 110 (List._∷_
-              110 (List._∷_ 97 (List._∷_ 58 (List._∷_ 58 (List._∷_ 83 (List._∷_ 116 (List._∷_ 114 (List._∷_ 101 (List._∷_ 97 (List._∷_ 109 List.[]))))))))))))))))))))))))
-              (Syntax.tcons (Syntax.tyStruct (List._∷_ 102 (List._∷_ 114 (List._∷_ 97 (List._∷_ 99 (List._∷_ 116 (List._∷_ 105 (List._∷_ 111 (List._∷_ 110 (List._∷_ 58 (List._∷_ 58
-              (List._∷_ 70 (List._∷_ 114 (List._∷_ 97 (List._∷_ 99 (List._∷_ 116 (List._∷_ 105 (List._∷_ 111 (List._∷_ 110 List.[])))))))))))))))))) (Syntax.tcons (Syntax.tyInt
-              Syntax.w32) (Syntax.tcons (Syntax.tyInt Syntax.w32) Syntax.tnil))) (Syntax.tcons (Syntax.tyInt Syntax.w32) (Syntax.tcons (Syntax.tyInt Syntax.w32) Syntax.tnil))))
-              (Local.room-whole 𝓤 H A W (Declared'.row Stream.the-type) (Syntax.tyStruct (List._∷_ 103 (List._∷_ 114 (List._∷_ 101 (List._∷_ 101 (List._∷_ 110 (List._∷_ 119
-              (List._∷_ 97 (List._∷_ 108 (List._∷_ 100 (List._∷_ 95 (List._∷_ 107 (List._∷_ 104 (List._∷_ 97 (List._∷_ 110 (List._∷_ 110 (List._∷_ 97 (List._∷_ 58 (List._∷_ 58
-              (List._∷_ 83 (List._∷_ 116 (List._∷_ 114 (List._∷_ 101 (List._∷_ 97 (List._∷_ 109 List.[])))))))))))))))))))))))) (Syntax.tcons (Syntax.tyStruct (List._∷_ 102
-              (List._∷_ 114 (List._∷_ 97 (List._∷_ 99 (List._∷_ 116 (List._∷_ 105 (List._∷_ 111 (List._∷_ 110 (List._∷_ 58 (List._∷_ 58 (List._∷_ 70 (List._∷_ 114 (List._∷_ 97
-              (List._∷_ 99 (List._∷_ 116 (List._∷_ 105 (List._∷_ 111 (List._∷_ 110 List.[])))))))))))))))))) (Syntax.tcons (Syntax.tyInt Syntax.w32) (Syntax.tcons (Syntax.tyInt
-              Syntax.w32) Syntax.tnil))) (Syntax.tcons (Syntax.tyInt Syntax.w32) (Syntax.tcons (Syntax.tyInt Syntax.w32) Syntax.tnil)))) Path'.refl)) d18
+              110 (List._∷_ 97 (List._∷_ 95 (List._∷_ 115 (List._∷_ 116 (List._∷_ 101 (List._∷_ 112 (List._∷_ 115 (List._∷_ 58 (List._∷_ 58 (List._∷_ 83 (List._∷_ 116 (List._∷_ 114
+              (List._∷_ 101 (List._∷_ 97 (List._∷_ 109 List.[])))))))))))))))))))))))))))))) (Syntax.tcons (Syntax.tyStruct (List._∷_ 102 (List._∷_ 114 (List._∷_ 97 (List._∷_ 99
+              (List._∷_ 116 (List._∷_ 105 (List._∷_ 111 (List._∷_ 110 (List._∷_ 58 (List._∷_ 58 (List._∷_ 70 (List._∷_ 114 (List._∷_ 97 (List._∷_ 99 (List._∷_ 116 (List._∷_ 105
+              (List._∷_ 111 (List._∷_ 110 List.[])))))))))))))))))) (Syntax.tcons (Syntax.tyInt Syntax.w32) (Syntax.tcons (Syntax.tyInt Syntax.w32) Syntax.tnil))) (Syntax.tcons
+              (Syntax.tyInt Syntax.w32) (Syntax.tcons (Syntax.tyInt Syntax.w32) Syntax.tnil)))) (Local.room-whole 𝓤 H A W (Declared'.row Stream.the-type) (Syntax.tyStruct (List._∷_
+              103 (List._∷_ 114 (List._∷_ 101 (List._∷_ 101 (List._∷_ 110 (List._∷_ 119 (List._∷_ 97 (List._∷_ 108 (List._∷_ 100 (List._∷_ 95 (List._∷_ 107 (List._∷_ 104 (List._∷_
+              97 (List._∷_ 110 (List._∷_ 110 (List._∷_ 97 (List._∷_ 95 (List._∷_ 115 (List._∷_ 116 (List._∷_ 101 (List._∷_ 112 (List._∷_ 115 (List._∷_ 58 (List._∷_ 58 (List._∷_ 83
+              (List._∷_ 116 (List._∷_ 114 (List._∷_ 101 (List._∷_ 97 (List._∷_ 109 List.[])))))))))))))))))))))))))))))) (Syntax.tcons (Syntax.tyStruct (List._∷_ 102 (List._∷_ 114
+              (List._∷_ 97 (List._∷_ 99 (List._∷_ 116 (List._∷_ 105 (List._∷_ 111 (List._∷_ 110 (List._∷_ 58 (List._∷_ 58 (List._∷_ 70 (List._∷_ 114 (List._∷_ 97 (List._∷_ 99
+              (List._∷_ 116 (List._∷_ 105 (List._∷_ 111 (List._∷_ 110 List.[])))))))))))))))))) (Syntax.tcons (Syntax.tyInt Syntax.w32) (Syntax.tcons (Syntax.tyInt Syntax.w32)
+              Syntax.tnil))) (Syntax.tcons (Syntax.tyInt Syntax.w32) (Syntax.tcons (Syntax.tyInt Syntax.w32) Syntax.tnil)))) Path'.refl)) d18
 
           d20 : Typed.Typed 𝓤 H A 𝓣 E G24 b17 Δ2 (at20 bs)
           d20 = Typed.s-seq 𝓤 H A W 𝓣 E G24 G25 b15 b16 Δ2 (Typed.both (s21 bs)) (at19 bs) (Plain.t-call-plain 𝓤 H A W 𝓣 2 ps·1 r·1 (claims· .2) (claims· .3)
@@ -3194,8 +3182,8 @@ module _ (claims· : Claims) where
               ) 0 (List._∷_ 0 (List._∷_ 1 List.[])) (Call.sub-id
               𝓤 H A W (G24 .slots)) (
                 (
-                  Yields.yields-copy 𝓤 H A W (λ ρ. Unit) (Declared'.row Stream.the-type) Path'.refl (Copies.cStruct Stream.the-type Laws'.the-laws
-                      Laws'.the-copy .copy 𝓤 H A W) (Rows'.whole (Declared'.row Stream.the-type)) (λ x. x) (λ x. x) (λ ρ told. Local.mem-whole 𝓤 H A W (Declared'.row Stream.the-type) ρ) λ
+                  Yields.yields-copy 𝓤 H A W (λ ρ. Unit) (Declared'.row Stream.the-type) Path'.refl (Copies.cStruct Stream.the-type Laws''.the-laws
+                      Laws''.the-copy .copy 𝓤 H A W) (Rows'.whole (Declared'.row Stream.the-type)) (λ x. x) (λ x. x) (λ ρ told. Local.mem-whole 𝓤 H A W (Declared'.row Stream.the-type) ρ) λ
                       ρ told. Local.whole-mem 𝓤 H A W (Declared'.row Stream.the-type) ρ,
                   Path'.refl,
                 ),
@@ -3218,7 +3206,7 @@ module _ (claims· : Claims) where
                       (
                         (
                           Yields.yields-copy 𝓤 H A W (λ ρ. Unit) (Declared.row Question.the-type) Path'.refl (Copies.cEnum
-                              Question.the-type Laws''.the-laws Laws''.the-copy .copy 𝓤 H A W) (Rows'.whole (Declared.row Question.the-type)) (λ x. x) (λ x. x) (λ ρ told. Local.mem-whole 𝓤 H A W
+                              Question.the-type Laws'.the-laws Laws'.the-copy .copy 𝓤 H A W) (Rows'.whole (Declared.row Question.the-type)) (λ x. x) (λ x. x) (λ ρ told. Local.mem-whole 𝓤 H A W
                               (Declared.row Question.the-type) ρ) λ ρ told. Local.whole-mem 𝓤 H A W (Declared.row Question.the-type) ρ,
                           Path'.refl,
                         ),
@@ -3387,16 +3375,17 @@ module _ (claims· : Claims) where
           d41 : Typed.Typed 𝓤 H A 𝓣 E G43 b29 Δ0 (at41 bs)
           d41 = Typed.g-pre 𝓤 H A W 𝓣 E G43 G44 b29 Δ0 (Typed.pass T43 T44 (s40 bs)) (at40 bs) (Scalar.g-room 𝓤 H A W E G43 1 (Syntax.tyStruct (List._∷_ 103 (List._∷_ 114 (List._∷_
               101 (List._∷_ 101 (List._∷_ 110 (List._∷_ 119 (List._∷_ 97 (List._∷_ 108 (List._∷_ 100 (List._∷_ 95 (List._∷_ 107 (List._∷_ 104 (List._∷_ 97 (List._∷_ 110 (List._∷_
-              110 (List._∷_ 97 (List._∷_ 58 (List._∷_ 58 (List._∷_ 83 (List._∷_ 116 (List._∷_ 114 (List._∷_ 101 (List._∷_ 97 (List._∷_ 109 List.[]))))))))))))))))))))))))
-              (Syntax.tcons (Syntax.tyStruct (List._∷_ 102 (List._∷_ 114 (List._∷_ 97 (List._∷_ 99 (List._∷_ 116 (List._∷_ 105 (List._∷_ 111 (List._∷_ 110 (List._∷_ 58 (List._∷_ 58
-              (List._∷_ 70 (List._∷_ 114 (List._∷_ 97 (List._∷_ 99 (List._∷_ 116 (List._∷_ 105 (List._∷_ 111 (List._∷_ 110 List.[])))))))))))))))))) (Syntax.tcons (Syntax.tyInt
-              Syntax.w32) (Syntax.tcons (Syntax.tyInt Syntax.w32) Syntax.tnil))) (Syntax.tcons (Syntax.tyInt Syntax.w32) (Syntax.tcons (Syntax.tyInt Syntax.w32) Syntax.tnil))))
-              (Local.room-whole 𝓤 H A W (Declared'.row Stream.the-type) (Syntax.tyStruct (List._∷_ 103 (List._∷_ 114 (List._∷_ 101 (List._∷_ 101 (List._∷_ 110 (List._∷_ 119
-              (List._∷_ 97 (List._∷_ 108 (List._∷_ 100 (List._∷_ 95 (List._∷_ 107 (List._∷_ 104 (List._∷_ 97 (List._∷_ 110 (List._∷_ 110 (List._∷_ 97 (List._∷_ 58 (List._∷_ 58
-              (List._∷_ 83 (List._∷_ 116 (List._∷_ 114 (List._∷_ 101 (List._∷_ 97 (List._∷_ 109 List.[])))))))))))))))))))))))) (Syntax.tcons (Syntax.tyStruct (List._∷_ 102
-              (List._∷_ 114 (List._∷_ 97 (List._∷_ 99 (List._∷_ 116 (List._∷_ 105 (List._∷_ 111 (List._∷_ 110 (List._∷_ 58 (List._∷_ 58 (List._∷_ 70 (List._∷_ 114 (List._∷_ 97
-              (List._∷_ 99 (List._∷_ 116 (List._∷_ 105 (List._∷_ 111 (List._∷_ 110 List.[])))))))))))))))))) (Syntax.tcons (Syntax.tyInt Syntax.w32) (Syntax.tcons (Syntax.tyInt
-              Syntax.w32) Syntax.tnil))) (Syntax.tcons (Syntax.tyInt Syntax.w32) (Syntax.tcons (Syntax.tyInt Syntax.w32) Syntax.tnil)))) Path'.refl)) d40
+              110 (List._∷_ 97 (List._∷_ 95 (List._∷_ 115 (List._∷_ 116 (List._∷_ 101 (List._∷_ 112 (List._∷_ 115 (List._∷_ 58 (List._∷_ 58 (List._∷_ 83 (List._∷_ 116 (List._∷_ 114
+              (List._∷_ 101 (List._∷_ 97 (List._∷_ 109 List.[])))))))))))))))))))))))))))))) (Syntax.tcons (Syntax.tyStruct (List._∷_ 102 (List._∷_ 114 (List._∷_ 97 (List._∷_ 99
+              (List._∷_ 116 (List._∷_ 105 (List._∷_ 111 (List._∷_ 110 (List._∷_ 58 (List._∷_ 58 (List._∷_ 70 (List._∷_ 114 (List._∷_ 97 (List._∷_ 99 (List._∷_ 116 (List._∷_ 105
+              (List._∷_ 111 (List._∷_ 110 List.[])))))))))))))))))) (Syntax.tcons (Syntax.tyInt Syntax.w32) (Syntax.tcons (Syntax.tyInt Syntax.w32) Syntax.tnil))) (Syntax.tcons
+              (Syntax.tyInt Syntax.w32) (Syntax.tcons (Syntax.tyInt Syntax.w32) Syntax.tnil)))) (Local.room-whole 𝓤 H A W (Declared'.row Stream.the-type) (Syntax.tyStruct (List._∷_
+              103 (List._∷_ 114 (List._∷_ 101 (List._∷_ 101 (List._∷_ 110 (List._∷_ 119 (List._∷_ 97 (List._∷_ 108 (List._∷_ 100 (List._∷_ 95 (List._∷_ 107 (List._∷_ 104 (List._∷_
+              97 (List._∷_ 110 (List._∷_ 110 (List._∷_ 97 (List._∷_ 95 (List._∷_ 115 (List._∷_ 116 (List._∷_ 101 (List._∷_ 112 (List._∷_ 115 (List._∷_ 58 (List._∷_ 58 (List._∷_ 83
+              (List._∷_ 116 (List._∷_ 114 (List._∷_ 101 (List._∷_ 97 (List._∷_ 109 List.[])))))))))))))))))))))))))))))) (Syntax.tcons (Syntax.tyStruct (List._∷_ 102 (List._∷_ 114
+              (List._∷_ 97 (List._∷_ 99 (List._∷_ 116 (List._∷_ 105 (List._∷_ 111 (List._∷_ 110 (List._∷_ 58 (List._∷_ 58 (List._∷_ 70 (List._∷_ 114 (List._∷_ 97 (List._∷_ 99
+              (List._∷_ 116 (List._∷_ 105 (List._∷_ 111 (List._∷_ 110 List.[])))))))))))))))))) (Syntax.tcons (Syntax.tyInt Syntax.w32) (Syntax.tcons (Syntax.tyInt Syntax.w32)
+              Syntax.tnil))) (Syntax.tcons (Syntax.tyInt Syntax.w32) (Syntax.tcons (Syntax.tyInt Syntax.w32) Syntax.tnil)))) Path'.refl)) d40
 
           d42 : Typed.Typed 𝓤 H A 𝓣 E G42 b30 Δ0 (at42 bs)
           d42 = Typed.s-seq 𝓤 H A W 𝓣 E G42 G43 b28 b29 Δ0 (Typed.both (s39 bs)) (at41 bs) (Plain.t-call-plain 𝓤 H A W 𝓣 2 ps·1 r·1 (claims· .2) (claims· .3)
@@ -3425,8 +3414,8 @@ module _ (claims· : Claims) where
               ) 0 (List._∷_ 0 (List._∷_ 2 List.[])) (Call.sub-id
               𝓤 H A W (G42 .slots)) (
                 (
-                  Yields.yields-copy 𝓤 H A W (λ ρ. Unit) (Declared'.row Stream.the-type) Path'.refl (Copies.cStruct Stream.the-type Laws'.the-laws
-                      Laws'.the-copy .copy 𝓤 H A W) (Rows'.whole (Declared'.row Stream.the-type)) (λ x. x) (λ x. x) (λ ρ told. Local.mem-whole 𝓤 H A W (Declared'.row Stream.the-type) ρ) λ
+                  Yields.yields-copy 𝓤 H A W (λ ρ. Unit) (Declared'.row Stream.the-type) Path'.refl (Copies.cStruct Stream.the-type Laws''.the-laws
+                      Laws''.the-copy .copy 𝓤 H A W) (Rows'.whole (Declared'.row Stream.the-type)) (λ x. x) (λ x. x) (λ ρ told. Local.mem-whole 𝓤 H A W (Declared'.row Stream.the-type) ρ) λ
                       ρ told. Local.whole-mem 𝓤 H A W (Declared'.row Stream.the-type) ρ,
                   Path'.refl,
                 ),
@@ -3449,7 +3438,7 @@ module _ (claims· : Claims) where
                       (
                         (
                           Yields.yields-copy 𝓤 H A W (λ ρ. Unit) (Declared.row Question.the-type) Path'.refl (Copies.cEnum
-                              Question.the-type Laws''.the-laws Laws''.the-copy .copy 𝓤 H A W) (Rows'.whole (Declared.row Question.the-type)) (λ x. x) (λ x. x) (λ ρ told. Local.mem-whole 𝓤 H A W
+                              Question.the-type Laws'.the-laws Laws'.the-copy .copy 𝓤 H A W) (Rows'.whole (Declared.row Question.the-type)) (λ x. x) (λ x. x) (λ ρ told. Local.mem-whole 𝓤 H A W
                               (Declared.row Question.the-type) ρ) λ ρ told. Local.whole-mem 𝓤 H A W (Declared.row Question.the-type) ρ,
                           Path'.refl,
                         ),
@@ -3578,14 +3567,16 @@ module _ (claims· : Claims) where
               "greenwald_khanna_face::parts::reach" (known .0) E (λ pos β. β) G4 (record { pos = 1; st = List.[]; d = 0; at = λ x. x }, (Num.vAt 4 λ x. x, tt)) 5 List.[]
               (Call.sub-id 𝓤 H A W (G4 .slots)) (
                 (
-                  Yields.yields-copy 𝓤 H A W (λ ρ. Unit) (Declared'.row Stream.the-type) Path'.refl (Copies.cStruct Stream.the-type Laws'.the-laws
-                      Laws'.the-copy .copy 𝓤 H A W) (Rows'.whole (Declared'.row Stream.the-type)) (λ x. x) (λ x. x) (λ ρ told. Local.mem-whole 𝓤 H A W (Declared'.row Stream.the-type) ρ) λ
-                      ρ told. Local.whole-mem 𝓤 H A W (Declared'.row Stream.the-type) ρ,
+                  Yields.yields-copy 𝓤 H A W (λ ρ. Unit) (Declared'.row Stream.the-type) Path'.refl (Copies.cStruct Stream.the-type
+                      Laws''.the-laws Laws''.the-copy .copy 𝓤 H A W) (Rows'.whole (Declared'.row Stream.the-type)) (λ x. x) (λ x. x) (λ ρ told. Local.mem-whole 𝓤 H A W (Declared'.row
+                      Stream.the-type) ρ) λ ρ told. Local.whole-mem 𝓤 H A W (Declared'.row Stream.the-type) ρ,
                   Path'.refl,
                 ),
-                ((Scalar.reads-sc 𝓤 H A W (Row.sInt Syntax.w64), Path'.refl), tt),
-              )
-              (Reads.room-gone 𝓤 H A (Syntax.tyInt Syntax.w64)) tt Path'.refl) d52
+                (
+                  (Scalar.reads-sc 𝓤 H A W (Row.sInt Syntax.w64), Path'.refl),
+                  tt,
+                ),
+              ) (Reads.room-gone 𝓤 H A (Syntax.tyInt Syntax.w64)) tt Path'.refl) d52
 
           d54 : Typed.Typed 𝓤 H A 𝓣 E G3 b38 Δ0 (at54 bs)
           d54 = Typed.t-seq 𝓤 H A W 𝓣 E G3 G4 b8 b37 Δ0 (at10 bs) (at53 bs) d10 d53
@@ -3611,18 +3602,19 @@ module _ (claims· : Claims) where
           pub stream : Kinds.Den {n = 1} κs (Value.pVal record {
             ty = Declared'.row Stream.the-type;
             one = Path'.refl;
-            val = Laws'5.val Stream.the-type Laws'.the-laws;
+            val = Laws'5.val Stream.the-type Laws''.the-laws;
             tells =
-                Laws'5.tells Stream.the-type Laws'.the-laws;
-            still = Laws'5.still Stream.the-type Laws'.the-copy Exit.yes;
+                Laws'5.tells Stream.the-type Laws''.the-laws;
+            still = Laws'5.still Stream.the-type Laws''.the-copy Exit.yes;
             row = Rows'.whole (Declared'.row Stream.the-type);
             rd = λ
                 x. x;
             mk = λ x. x;
           } λ M 𝓤 H A W. record {
-            copies = Laws'5.copy Stream.the-type Laws'.the-copy 𝓤 H A W;
-            lawful = Laws'5.lawful Stream.the-type Laws'.the-laws 𝓤 H A W;
-            makes = Laws'5.makes Stream.the-type Laws'.the-plain 𝓤 H A;
+            copies = Laws'5.copy Stream.the-type Laws''.the-copy 𝓤 H A W;
+            lawful = Laws'5.lawful Stream.the-type Laws''.the-laws 𝓤 H A
+                W;
+            makes = Laws'5.makes Stream.the-type Laws''.the-plain 𝓤 H A;
             in-mem = Local.mem-whole 𝓤 H A W (Declared'.row Stream.the-type);
             of-mem = Local.whole-mem 𝓤 H A W
                 (Declared'.row Stream.the-type);
@@ -3631,21 +3623,22 @@ module _ (claims· : Claims) where
           pub question : Kinds.Den {n = 1} κs (Value.pVal record {
             ty = Declared.row Question.the-type;
             one = Path'.refl;
-            val = Laws'4.val Question.the-type Laws''.the-laws;
-            tells
-                = Laws'4.tells Question.the-type Laws''.the-laws;
-            still = Laws'4.still Question.the-type Laws''.the-copy Exit.yes;
+            val = Laws'4.val Question.the-type Laws'.the-laws;
+            tells =
+                Laws'4.tells Question.the-type Laws'.the-laws;
+            still = Laws'4.still Question.the-type Laws'.the-copy Exit.yes;
             row = Rows'.whole (Declared.row Question.the-type);
-            rd = λ x. x;
+            rd
+                = λ x. x;
             mk = λ x. x;
           } λ M 𝓤 H A W. record {
-            copies = Laws'4.copy Question.the-type Laws''.the-copy 𝓤 H A W;
-            lawful = Laws'4.lawful Question.the-type
-                Laws''.the-laws 𝓤 H A W tt;
-            makes = Laws'4.makes Question.the-type Laws''.the-plain 𝓤 H A;
+            copies = Laws'4.copy Question.the-type Laws'.the-copy 𝓤 H A W;
+            lawful = Laws'4.lawful Question.the-type Laws'.the-laws
+                𝓤 H A W tt;
+            makes = Laws'4.makes Question.the-type Laws'.the-plain 𝓤 H A;
             in-mem = Local.mem-whole 𝓤 H A W (Declared.row Question.the-type);
-            of-mem =
-                Local.whole-mem 𝓤 H A W (Declared.row Question.the-type);
+            of-mem = Local.whole-mem
+                𝓤 H A W (Declared.row Question.the-type);
           })
 
         abbrev pub dens : (a : Args) → Kinds.Dens κs ps

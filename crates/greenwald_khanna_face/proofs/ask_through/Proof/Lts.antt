@@ -3,10 +3,10 @@ use Rattle.entries_face.proofs.Of
 use Prim.Native.Nat
 use Rattle.greenwald_khanna.proofs.Answer
 use Rattle.greenwald_khanna.proofs.Answer.Laws
-use Rattle.greenwald_khanna.proofs.Stream
-use Rattle.greenwald_khanna.proofs.Stream.Laws as Laws'
 use Rattle.greenwald_khanna_face.proofs.parts.Question
-use Rattle.greenwald_khanna_face.proofs.parts.Question.Laws as Laws''
+use Rattle.greenwald_khanna_face.proofs.parts.Question.Laws as Laws'
+use Rattle.greenwald_khanna_steps.proofs.Stream
+use Rattle.greenwald_khanna_steps.proofs.Stream.Laws as Laws''
 use borrow.Author.Called
 use borrow.Fn.Any
 use borrow.Fn.Call
@@ -57,37 +57,39 @@ abbrev pub ps : List.List (Kinds.PK 2)
 ps = List._∷_ (Value.pVal record {
   ty = Declared'.row Stream.the-type;
   one = Path'.refl;
-  val = Laws'4.val Stream.the-type Laws'.the-laws;
+  val = Laws'4.val Stream.the-type Laws''.the-laws;
   tells = Laws'4.tells Stream.the-type
-      Laws'.the-laws;
-  still = Laws'4.still Stream.the-type Laws'.the-copy Exit.yes;
+      Laws''.the-laws;
+  still = Laws'4.still Stream.the-type Laws''.the-copy Exit.yes;
   row = Rows.whole (Declared'.row Stream.the-type);
   rd = λ x. x;
   mk = λ x. x;
-} λ M 𝓤 H A W. record {
-  copies = Laws'4.copy Stream.the-type Laws'.the-copy 𝓤 H A W;
-  lawful = Laws'4.lawful Stream.the-type Laws'.the-laws 𝓤 H A W;
-  makes = Laws'4.makes Stream.the-type
-      Laws'.the-plain 𝓤 H A;
-  in-mem = Local.mem-whole 𝓤 H A W (Declared'.row Stream.the-type);
-  of-mem = Local.whole-mem 𝓤 H A W (Declared'.row Stream.the-type);
-}) (List._∷_
+} λ M 𝓤 H A W.
+    record {
+      copies = Laws'4.copy Stream.the-type Laws''.the-copy 𝓤 H A W;
+      lawful = Laws'4.lawful Stream.the-type Laws''.the-laws 𝓤 H A W;
+      makes = Laws'4.makes Stream.the-type
+          Laws''.the-plain 𝓤 H A;
+      in-mem = Local.mem-whole 𝓤 H A W (Declared'.row Stream.the-type);
+      of-mem = Local.whole-mem 𝓤 H A W (Declared'.row Stream.the-type);
+    }) (List._∷_
     (ShrSlice.pShrS Of.R 0 tt) (List._∷_ (Num.pNum Syntax.w64) (List._∷_ (MutSlice.pMutS (Array.Array (Referent.rtF (Referent.fInt Syntax.w32)) 3) 1 tt) (List._∷_ (Value.pVal
     record {
       ty = Declared.row Question.the-type;
       one = Path'.refl;
-      val = Laws'3.val Question.the-type Laws''.the-laws;
-      tells = Laws'3.tells Question.the-type Laws''.the-laws;
-      still = Laws'3.still Question.the-type Laws''.the-copy Exit.yes;
+      val = Laws'3.val Question.the-type Laws'.the-laws;
+      tells = Laws'3.tells Question.the-type Laws'.the-laws;
+      still
+          = Laws'3.still Question.the-type Laws'.the-copy Exit.yes;
       row = Rows.whole (Declared.row Question.the-type);
       rd = λ x. x;
       mk = λ x. x;
     } λ M 𝓤 H A W. record {
       copies =
-          Laws'3.copy Question.the-type Laws''.the-copy 𝓤 H A W;
-      lawful = Laws'3.lawful Question.the-type Laws''.the-laws 𝓤 H A W tt;
-      makes = Laws'3.makes Question.the-type
-          Laws''.the-plain 𝓤 H A;
+          Laws'3.copy Question.the-type Laws'.the-copy 𝓤 H A W;
+      lawful = Laws'3.lawful Question.the-type Laws'.the-laws 𝓤 H A W tt;
+      makes = Laws'3.makes Question.the-type Laws'.the-plain
+          𝓤 H A;
       in-mem = Local.mem-whole 𝓤 H A W (Declared.row Question.the-type);
       of-mem = Local.whole-mem 𝓤 H A W (Declared.row Question.the-type);
     }) List.[]))))
@@ -130,37 +132,38 @@ abbrev pub ps·1 : List.List (Kinds.PK 1)
 ps·1 = List._∷_ (Value.pVal record {
   ty = Declared'.row Stream.the-type;
   one = Path'.refl;
-  val = Laws'4.val Stream.the-type Laws'.the-laws;
+  val = Laws'4.val Stream.the-type Laws''.the-laws;
   tells = Laws'4.tells Stream.the-type
-      Laws'.the-laws;
-  still = Laws'4.still Stream.the-type Laws'.the-copy Exit.yes;
+      Laws''.the-laws;
+  still = Laws'4.still Stream.the-type Laws''.the-copy Exit.yes;
   row = Rows.whole (Declared'.row Stream.the-type);
   rd = λ x. x;
   mk = λ x. x;
-} λ M 𝓤 H A W. record {
-  copies = Laws'4.copy Stream.the-type Laws'.the-copy 𝓤 H A W;
-  lawful = Laws'4.lawful Stream.the-type Laws'.the-laws 𝓤 H A W;
-  makes = Laws'4.makes Stream.the-type
-      Laws'.the-plain 𝓤 H A;
-  in-mem = Local.mem-whole 𝓤 H A W (Declared'.row Stream.the-type);
-  of-mem = Local.whole-mem 𝓤 H A W (Declared'.row Stream.the-type);
-}) (List._∷_
+} λ M 𝓤 H A W.
+    record {
+      copies = Laws'4.copy Stream.the-type Laws''.the-copy 𝓤 H A W;
+      lawful = Laws'4.lawful Stream.the-type Laws''.the-laws 𝓤 H A W;
+      makes = Laws'4.makes Stream.the-type
+          Laws''.the-plain 𝓤 H A;
+      in-mem = Local.mem-whole 𝓤 H A W (Declared'.row Stream.the-type);
+      of-mem = Local.whole-mem 𝓤 H A W (Declared'.row Stream.the-type);
+    }) (List._∷_
     (ShrSlice.pShrS (Array.Array (Referent.rtF (Referent.fInt Syntax.w32)) 3) 0 tt) (List._∷_ (Num.pNum Syntax.w64) (List._∷_ (Value.pVal record {
       ty = Declared.row
           Question.the-type;
       one = Path'.refl;
-      val = Laws'3.val Question.the-type Laws''.the-laws;
-      tells = Laws'3.tells Question.the-type Laws''.the-laws;
+      val = Laws'3.val Question.the-type Laws'.the-laws;
+      tells = Laws'3.tells Question.the-type Laws'.the-laws;
       still = Laws'3.still
-          Question.the-type Laws''.the-copy Exit.yes;
+          Question.the-type Laws'.the-copy Exit.yes;
       row = Rows.whole (Declared.row Question.the-type);
       rd = λ x. x;
       mk = λ x. x;
     } λ M 𝓤 H A W. record {
       copies = Laws'3.copy
-          Question.the-type Laws''.the-copy 𝓤 H A W;
-      lawful = Laws'3.lawful Question.the-type Laws''.the-laws 𝓤 H A W tt;
-      makes = Laws'3.makes Question.the-type Laws''.the-plain 𝓤 H A;
+          Question.the-type Laws'.the-copy 𝓤 H A W;
+      lawful = Laws'3.lawful Question.the-type Laws'.the-laws 𝓤 H A W tt;
+      makes = Laws'3.makes Question.the-type Laws'.the-plain 𝓤 H A;
       in-mem = Local.mem-whole 𝓤 H A W (Declared.row Question.the-type);
       of-mem = Local.whole-mem 𝓤 H A W (Declared.row Question.the-type);
     }) List.[])))
@@ -282,39 +285,42 @@ abbrev pub t1 : List.List Row.Entry
 t1 = List._∷_ (0, Rows.whole (Declared.row Answer.the-type)) (List._∷_ (
   1,
   Rows.any-gone (Syntax.tyStruct (List._∷_ 103 (List._∷_ 114 (List._∷_ 101 (List._∷_ 101 (List._∷_ 110
-      (List._∷_ 119 (List._∷_ 97 (List._∷_ 108 (List._∷_ 100 (List._∷_ 95 (List._∷_ 107 (List._∷_ 104 (List._∷_ 97 (List._∷_ 110 (List._∷_ 110 (List._∷_ 97 (List._∷_ 58 (List._∷_ 58
-      (List._∷_ 83 (List._∷_ 116 (List._∷_ 114 (List._∷_ 101 (List._∷_ 97 (List._∷_ 109 List.[])))))))))))))))))))))))) (Syntax.tcons (Syntax.tyStruct (List._∷_ 102 (List._∷_ 114
-      (List._∷_ 97 (List._∷_ 99 (List._∷_ 116 (List._∷_ 105 (List._∷_ 111 (List._∷_ 110 (List._∷_ 58 (List._∷_ 58 (List._∷_ 70 (List._∷_ 114 (List._∷_ 97 (List._∷_ 99 (List._∷_ 116
-      (List._∷_ 105 (List._∷_ 111 (List._∷_ 110 List.[])))))))))))))))))) (Syntax.tcons (Syntax.tyInt Syntax.w32) (Syntax.tcons (Syntax.tyInt Syntax.w32) Syntax.tnil))) (Syntax.tcons
-      (Syntax.tyInt Syntax.w32) (Syntax.tcons (Syntax.tyInt Syntax.w32) Syntax.tnil)))),
-) (List._∷_ (2, Rows.sslice Of.R (Syntax.tyRef (Syntax.named 0) Syntax.imm Of.tyBy) 0)
-    (List._∷_ (3, Rows.any-gone (Syntax.tyInt Syntax.w64)) (List._∷_ (
-      4,
-      Mut.mslice (Array.Array (Referent.rtF (Referent.fInt Syntax.w32)) 3) (Syntax.tyRef (Syntax.named 1)
-          Syntax.mut (Syntax.tyArray (Syntax.tyInt Syntax.w32) 3)) 1,
-    ) (List._∷_ (
-      5,
-      Rows.any-gone (Syntax.tyEnum (List._∷_ 103 (List._∷_ 114 (List._∷_ 101 (List._∷_ 101 (List._∷_ 110
-          (List._∷_ 119 (List._∷_ 97 (List._∷_ 108 (List._∷_ 100 (List._∷_ 95 (List._∷_ 107 (List._∷_ 104 (List._∷_ 97 (List._∷_ 110 (List._∷_ 110 (List._∷_ 97 (List._∷_ 95 (List._∷_ 102
-          (List._∷_ 97 (List._∷_ 99 (List._∷_ 101 (List._∷_ 58 (List._∷_ 58 (List._∷_ 112 (List._∷_ 97 (List._∷_ 114 (List._∷_ 116 (List._∷_ 115 (List._∷_ 58 (List._∷_ 58 (List._∷_ 81
-          (List._∷_ 117 (List._∷_ 101 (List._∷_ 115 (List._∷_ 116 (List._∷_ 105 (List._∷_ 111 (List._∷_ 110 List.[])))))))))))))))))))))))))))))))))))))) (Syntax.ttcons (Syntax.tcons
-          (Syntax.tyStruct (List._∷_ 102 (List._∷_ 114 (List._∷_ 97 (List._∷_ 99 (List._∷_ 116 (List._∷_ 105 (List._∷_ 111 (List._∷_ 110 (List._∷_ 58 (List._∷_ 58 (List._∷_ 70 (List._∷_
-          114 (List._∷_ 97 (List._∷_ 99 (List._∷_ 116 (List._∷_ 105 (List._∷_ 111 (List._∷_ 110 List.[])))))))))))))))))) (Syntax.tcons (Syntax.tyInt Syntax.w32) (Syntax.tcons
-          (Syntax.tyInt Syntax.w32) Syntax.tnil))) Syntax.tnil) (Syntax.ttcons Syntax.tnil (Syntax.ttcons Syntax.tnil (Syntax.ttcons Syntax.tnil Syntax.ttnil))))),
-    ) (List._∷_ (
-      6,
-      Rows.any-gone Syntax.tyUnit,
-    ) (List._∷_ (7, Rows.any-gone (Syntax.tyRef Syntax.erased Syntax.mut (Syntax.tyArray (Syntax.tyInt Syntax.w32) 3))) (List._∷_ (
-      8,
-      Rows.any-gone
-          (Syntax.tyStruct (List._∷_ 38 (List._∷_ 91 (List._∷_ 93 List.[]))) (Syntax.tcons (Syntax.tyRef Syntax.erased Syntax.mut (Syntax.tyArray (Syntax.tyInt Syntax.w32) 3))
-          (Syntax.tcons (Syntax.tyInt Syntax.w64) Syntax.tnil))),
-    ) (List._∷_ (9, Rows.any-gone (Syntax.tyRef Syntax.erased Syntax.imm (Syntax.tyArray (Syntax.tyInt Syntax.w32) 3)))
-    (List._∷_ (
-      10,
-      Rows.any-gone (Syntax.tyStruct (List._∷_ 38 (List._∷_ 91 (List._∷_ 93 List.[]))) (Syntax.tcons (Syntax.tyRef Syntax.erased Syntax.imm (Syntax.tyArray
-          (Syntax.tyInt Syntax.w32) 3)) (Syntax.tcons (Syntax.tyInt Syntax.w64) Syntax.tnil))),
-    ) List.[]))))))))))
+      (List._∷_ 119 (List._∷_ 97 (List._∷_ 108 (List._∷_ 100 (List._∷_ 95 (List._∷_ 107 (List._∷_ 104 (List._∷_ 97 (List._∷_ 110 (List._∷_ 110 (List._∷_ 97 (List._∷_ 95 (List._∷_ 115
+      (List._∷_ 116 (List._∷_ 101 (List._∷_ 112 (List._∷_ 115 (List._∷_ 58 (List._∷_ 58 (List._∷_ 83 (List._∷_ 116 (List._∷_ 114 (List._∷_ 101 (List._∷_ 97 (List._∷_ 109
+      List.[])))))))))))))))))))))))))))))) (Syntax.tcons (Syntax.tyStruct (List._∷_ 102 (List._∷_ 114 (List._∷_ 97 (List._∷_ 99 (List._∷_ 116 (List._∷_ 105 (List._∷_ 111 (List._∷_
+      110 (List._∷_ 58 (List._∷_ 58 (List._∷_ 70 (List._∷_ 114 (List._∷_ 97 (List._∷_ 99 (List._∷_ 116 (List._∷_ 105 (List._∷_ 111 (List._∷_ 110 List.[]))))))))))))))))))
+      (Syntax.tcons (Syntax.tyInt Syntax.w32) (Syntax.tcons (Syntax.tyInt Syntax.w32) Syntax.tnil))) (Syntax.tcons (Syntax.tyInt Syntax.w32) (Syntax.tcons (Syntax.tyInt Syntax.w32)
+      Syntax.tnil)))),
+) (List._∷_ (2, Rows.sslice Of.R (Syntax.tyRef (Syntax.named 0) Syntax.imm Of.tyBy) 0) (List._∷_ (3, Rows.any-gone (Syntax.tyInt Syntax.w64)) (List._∷_ (
+  4,
+  Mut.mslice (Array.Array (Referent.rtF (Referent.fInt Syntax.w32)) 3) (Syntax.tyRef (Syntax.named 1) Syntax.mut (Syntax.tyArray (Syntax.tyInt Syntax.w32) 3)) 1,
+) (List._∷_ (
+  5,
+  Rows.any-gone (Syntax.tyEnum (List._∷_ 103 (List._∷_ 114 (List._∷_ 101 (List._∷_ 101 (List._∷_ 110 (List._∷_ 119 (List._∷_ 97 (List._∷_ 108 (List._∷_ 100 (List._∷_ 95 (List._∷_
+      107 (List._∷_ 104 (List._∷_ 97 (List._∷_ 110 (List._∷_ 110 (List._∷_ 97 (List._∷_ 95 (List._∷_ 102 (List._∷_ 97 (List._∷_ 99 (List._∷_ 101 (List._∷_ 58 (List._∷_ 58 (List._∷_
+      112 (List._∷_ 97 (List._∷_ 114 (List._∷_ 116 (List._∷_ 115 (List._∷_ 58 (List._∷_ 58 (List._∷_ 81 (List._∷_ 117 (List._∷_ 101 (List._∷_ 115 (List._∷_ 116 (List._∷_ 105
+      (List._∷_ 111 (List._∷_ 110 List.[])))))))))))))))))))))))))))))))))))))) (Syntax.ttcons (Syntax.tcons (Syntax.tyStruct (List._∷_ 102 (List._∷_ 114 (List._∷_ 97 (List._∷_ 99
+      (List._∷_ 116 (List._∷_ 105 (List._∷_ 111 (List._∷_ 110 (List._∷_ 58 (List._∷_ 58 (List._∷_ 70 (List._∷_ 114 (List._∷_ 97 (List._∷_ 99 (List._∷_ 116 (List._∷_ 105 (List._∷_ 111
+      (List._∷_ 110 List.[])))))))))))))))))) (Syntax.tcons (Syntax.tyInt Syntax.w32) (Syntax.tcons (Syntax.tyInt Syntax.w32) Syntax.tnil))) Syntax.tnil) (Syntax.ttcons Syntax.tnil
+      (Syntax.ttcons Syntax.tnil (Syntax.ttcons Syntax.tnil Syntax.ttnil))))),
+) (List._∷_ (6, Rows.any-gone Syntax.tyUnit) (List._∷_ (
+  7,
+  Rows.any-gone (Syntax.tyRef Syntax.erased
+      Syntax.mut (Syntax.tyArray (Syntax.tyInt Syntax.w32) 3)),
+) (List._∷_ (
+  8,
+  Rows.any-gone (Syntax.tyStruct (List._∷_ 38 (List._∷_ 91 (List._∷_ 93 List.[]))) (Syntax.tcons
+      (Syntax.tyRef Syntax.erased Syntax.mut (Syntax.tyArray (Syntax.tyInt Syntax.w32) 3)) (Syntax.tcons (Syntax.tyInt Syntax.w64) Syntax.tnil))),
+) (List._∷_ (
+  9,
+  Rows.any-gone
+      (Syntax.tyRef Syntax.erased Syntax.imm (Syntax.tyArray (Syntax.tyInt Syntax.w32) 3)),
+) (List._∷_ (
+  10,
+  Rows.any-gone (Syntax.tyStruct (List._∷_ 38 (List._∷_ 91 (List._∷_ 93
+      List.[]))) (Syntax.tcons (Syntax.tyRef Syntax.erased Syntax.imm (Syntax.tyArray (Syntax.tyInt Syntax.w32) 3)) (Syntax.tcons (Syntax.tyInt Syntax.w64) Syntax.tnil))),
+)
+    List.[]))))))))))
 
 abbrev pub t2 : List.List Row.Entry
 t2 = List._∷_ (
@@ -604,103 +610,114 @@ abbrev pub t10 : List.List Row.Entry
 t10 = List._∷_ (0, Rows.whole (Declared.row Answer.the-type)) (List._∷_ (
   1,
   Rows.any-gone (Syntax.tyStruct (List._∷_ 103 (List._∷_ 114 (List._∷_ 101 (List._∷_ 101 (List._∷_ 110
-      (List._∷_ 119 (List._∷_ 97 (List._∷_ 108 (List._∷_ 100 (List._∷_ 95 (List._∷_ 107 (List._∷_ 104 (List._∷_ 97 (List._∷_ 110 (List._∷_ 110 (List._∷_ 97 (List._∷_ 58 (List._∷_ 58
-      (List._∷_ 83 (List._∷_ 116 (List._∷_ 114 (List._∷_ 101 (List._∷_ 97 (List._∷_ 109 List.[])))))))))))))))))))))))) (Syntax.tcons (Syntax.tyStruct (List._∷_ 102 (List._∷_ 114
-      (List._∷_ 97 (List._∷_ 99 (List._∷_ 116 (List._∷_ 105 (List._∷_ 111 (List._∷_ 110 (List._∷_ 58 (List._∷_ 58 (List._∷_ 70 (List._∷_ 114 (List._∷_ 97 (List._∷_ 99 (List._∷_ 116
-      (List._∷_ 105 (List._∷_ 111 (List._∷_ 110 List.[])))))))))))))))))) (Syntax.tcons (Syntax.tyInt Syntax.w32) (Syntax.tcons (Syntax.tyInt Syntax.w32) Syntax.tnil))) (Syntax.tcons
-      (Syntax.tyInt Syntax.w32) (Syntax.tcons (Syntax.tyInt Syntax.w32) Syntax.tnil)))),
-) (List._∷_ (2, Rows.sslice Of.R (Syntax.tyRef (Syntax.named 0) Syntax.imm Of.tyBy) 0)
-    (List._∷_ (3, Rows.sc-here (Row.sInt Syntax.w64)) (List._∷_ (
-      4,
-      Reshare.mslice-owedS (Array.Array (Referent.rtF (Referent.fInt Syntax.w32)) 3) (Syntax.tyRef (Syntax.named 1)
-          Syntax.mut (Syntax.tyArray (Syntax.tyInt Syntax.w32) 3)) 1 3 Row.off,
-    ) (List._∷_ (5, Rows.whole (Declared.row Question.the-type)) (List._∷_ (6, Rows.any-gone Syntax.tyUnit)
-    (List._∷_ (7, Rows.any-gone (Syntax.tyRef Syntax.erased Syntax.mut (Syntax.tyArray (Syntax.tyInt Syntax.w32) 3))) (List._∷_ (
-      8,
-      Rows.any-gone (Syntax.tyStruct (List._∷_ 38
-          (List._∷_ 91 (List._∷_ 93 List.[]))) (Syntax.tcons (Syntax.tyRef Syntax.erased Syntax.mut (Syntax.tyArray (Syntax.tyInt Syntax.w32) 3)) (Syntax.tcons (Syntax.tyInt Syntax.w64)
-          Syntax.tnil))),
-    ) (List._∷_ (9, Rows.any-gone (Syntax.tyRef Syntax.erased Syntax.imm (Syntax.tyArray (Syntax.tyInt Syntax.w32) 3))) (List._∷_ (
-      10,
-      Rows.any-gone
-          (Syntax.tyStruct (List._∷_ 38 (List._∷_ 91 (List._∷_ 93 List.[]))) (Syntax.tcons (Syntax.tyRef Syntax.erased Syntax.imm (Syntax.tyArray (Syntax.tyInt Syntax.w32) 3))
-          (Syntax.tcons (Syntax.tyInt Syntax.w64) Syntax.tnil))),
-    ) List.[]))))))))))
+      (List._∷_ 119 (List._∷_ 97 (List._∷_ 108 (List._∷_ 100 (List._∷_ 95 (List._∷_ 107 (List._∷_ 104 (List._∷_ 97 (List._∷_ 110 (List._∷_ 110 (List._∷_ 97 (List._∷_ 95 (List._∷_ 115
+      (List._∷_ 116 (List._∷_ 101 (List._∷_ 112 (List._∷_ 115 (List._∷_ 58 (List._∷_ 58 (List._∷_ 83 (List._∷_ 116 (List._∷_ 114 (List._∷_ 101 (List._∷_ 97 (List._∷_ 109
+      List.[])))))))))))))))))))))))))))))) (Syntax.tcons (Syntax.tyStruct (List._∷_ 102 (List._∷_ 114 (List._∷_ 97 (List._∷_ 99 (List._∷_ 116 (List._∷_ 105 (List._∷_ 111 (List._∷_
+      110 (List._∷_ 58 (List._∷_ 58 (List._∷_ 70 (List._∷_ 114 (List._∷_ 97 (List._∷_ 99 (List._∷_ 116 (List._∷_ 105 (List._∷_ 111 (List._∷_ 110 List.[]))))))))))))))))))
+      (Syntax.tcons (Syntax.tyInt Syntax.w32) (Syntax.tcons (Syntax.tyInt Syntax.w32) Syntax.tnil))) (Syntax.tcons (Syntax.tyInt Syntax.w32) (Syntax.tcons (Syntax.tyInt Syntax.w32)
+      Syntax.tnil)))),
+) (List._∷_ (2, Rows.sslice Of.R (Syntax.tyRef (Syntax.named 0) Syntax.imm Of.tyBy) 0) (List._∷_ (3, Rows.sc-here (Row.sInt Syntax.w64)) (List._∷_ (
+  4,
+  Reshare.mslice-owedS (Array.Array (Referent.rtF (Referent.fInt Syntax.w32)) 3) (Syntax.tyRef (Syntax.named 1) Syntax.mut (Syntax.tyArray (Syntax.tyInt Syntax.w32) 3)) 1 3
+      Row.off,
+) (List._∷_ (5, Rows.whole (Declared.row Question.the-type)) (List._∷_ (6, Rows.any-gone Syntax.tyUnit) (List._∷_ (
+  7,
+  Rows.any-gone (Syntax.tyRef Syntax.erased
+      Syntax.mut (Syntax.tyArray (Syntax.tyInt Syntax.w32) 3)),
+) (List._∷_ (
+  8,
+  Rows.any-gone (Syntax.tyStruct (List._∷_ 38 (List._∷_ 91 (List._∷_ 93 List.[]))) (Syntax.tcons
+      (Syntax.tyRef Syntax.erased Syntax.mut (Syntax.tyArray (Syntax.tyInt Syntax.w32) 3)) (Syntax.tcons (Syntax.tyInt Syntax.w64) Syntax.tnil))),
+) (List._∷_ (
+  9,
+  Rows.any-gone
+      (Syntax.tyRef Syntax.erased Syntax.imm (Syntax.tyArray (Syntax.tyInt Syntax.w32) 3)),
+) (List._∷_ (
+  10,
+  Rows.any-gone (Syntax.tyStruct (List._∷_ 38 (List._∷_ 91 (List._∷_ 93
+      List.[]))) (Syntax.tcons (Syntax.tyRef Syntax.erased Syntax.imm (Syntax.tyArray (Syntax.tyInt Syntax.w32) 3)) (Syntax.tcons (Syntax.tyInt Syntax.w64) Syntax.tnil))),
+)
+    List.[]))))))))))
 
 abbrev pub t11 : List.List Row.Entry
 t11 = List._∷_ (0, Rows.whole (Declared.row Answer.the-type)) (List._∷_ (
   1,
   Rows.any-gone (Syntax.tyStruct (List._∷_ 103 (List._∷_ 114 (List._∷_ 101 (List._∷_ 101 (List._∷_ 110
-      (List._∷_ 119 (List._∷_ 97 (List._∷_ 108 (List._∷_ 100 (List._∷_ 95 (List._∷_ 107 (List._∷_ 104 (List._∷_ 97 (List._∷_ 110 (List._∷_ 110 (List._∷_ 97 (List._∷_ 58 (List._∷_ 58
-      (List._∷_ 83 (List._∷_ 116 (List._∷_ 114 (List._∷_ 101 (List._∷_ 97 (List._∷_ 109 List.[])))))))))))))))))))))))) (Syntax.tcons (Syntax.tyStruct (List._∷_ 102 (List._∷_ 114
-      (List._∷_ 97 (List._∷_ 99 (List._∷_ 116 (List._∷_ 105 (List._∷_ 111 (List._∷_ 110 (List._∷_ 58 (List._∷_ 58 (List._∷_ 70 (List._∷_ 114 (List._∷_ 97 (List._∷_ 99 (List._∷_ 116
-      (List._∷_ 105 (List._∷_ 111 (List._∷_ 110 List.[])))))))))))))))))) (Syntax.tcons (Syntax.tyInt Syntax.w32) (Syntax.tcons (Syntax.tyInt Syntax.w32) Syntax.tnil))) (Syntax.tcons
-      (Syntax.tyInt Syntax.w32) (Syntax.tcons (Syntax.tyInt Syntax.w32) Syntax.tnil)))),
-) (List._∷_ (2, Rows.sslice Of.R (Syntax.tyRef (Syntax.named 0) Syntax.imm Of.tyBy) 0)
-    (List._∷_ (3, Rows.sc-here (Row.sInt Syntax.w64)) (List._∷_ (
-      4,
-      Reshare.mslice-owedS (Array.Array (Referent.rtF (Referent.fInt Syntax.w32)) 3) (Syntax.tyRef (Syntax.named 1)
-          Syntax.mut (Syntax.tyArray (Syntax.tyInt Syntax.w32) 3)) 1 3 Row.off,
-    ) (List._∷_ (
-      5,
-      Rows.any-gone (Syntax.tyEnum (List._∷_ 103 (List._∷_ 114 (List._∷_ 101 (List._∷_ 101
-          (List._∷_ 110 (List._∷_ 119 (List._∷_ 97 (List._∷_ 108 (List._∷_ 100 (List._∷_ 95 (List._∷_ 107 (List._∷_ 104 (List._∷_ 97 (List._∷_ 110 (List._∷_ 110 (List._∷_ 97 (List._∷_ 95
-          (List._∷_ 102 (List._∷_ 97 (List._∷_ 99 (List._∷_ 101 (List._∷_ 58 (List._∷_ 58 (List._∷_ 112 (List._∷_ 97 (List._∷_ 114 (List._∷_ 116 (List._∷_ 115 (List._∷_ 58 (List._∷_ 58
-          (List._∷_ 81 (List._∷_ 117 (List._∷_ 101 (List._∷_ 115 (List._∷_ 116 (List._∷_ 105 (List._∷_ 111 (List._∷_ 110 List.[])))))))))))))))))))))))))))))))))))))) (Syntax.ttcons
-          (Syntax.tcons (Syntax.tyStruct (List._∷_ 102 (List._∷_ 114 (List._∷_ 97 (List._∷_ 99 (List._∷_ 116 (List._∷_ 105 (List._∷_ 111 (List._∷_ 110 (List._∷_ 58 (List._∷_ 58 (List._∷_
-          70 (List._∷_ 114 (List._∷_ 97 (List._∷_ 99 (List._∷_ 116 (List._∷_ 105 (List._∷_ 111 (List._∷_ 110 List.[])))))))))))))))))) (Syntax.tcons (Syntax.tyInt Syntax.w32)
-          (Syntax.tcons (Syntax.tyInt Syntax.w32) Syntax.tnil))) Syntax.tnil) (Syntax.ttcons Syntax.tnil (Syntax.ttcons Syntax.tnil (Syntax.ttcons Syntax.tnil Syntax.ttnil))))),
-    )
-    (List._∷_ (6, Rows.any-gone Syntax.tyUnit) (List._∷_ (7, Rows.any-gone (Syntax.tyRef Syntax.erased Syntax.mut (Syntax.tyArray (Syntax.tyInt Syntax.w32) 3))) (List._∷_ (
-      8,
-      Rows.any-gone (Syntax.tyStruct (List._∷_ 38 (List._∷_ 91 (List._∷_ 93 List.[]))) (Syntax.tcons (Syntax.tyRef Syntax.erased Syntax.mut (Syntax.tyArray (Syntax.tyInt Syntax.w32)
-          3)) (Syntax.tcons (Syntax.tyInt Syntax.w64) Syntax.tnil))),
-    ) (List._∷_ (
-      9,
-      Rows.any-gone (Syntax.tyRef Syntax.erased Syntax.imm (Syntax.tyArray (Syntax.tyInt Syntax.w32) 3)),
-    ) (List._∷_ (
+      (List._∷_ 119 (List._∷_ 97 (List._∷_ 108 (List._∷_ 100 (List._∷_ 95 (List._∷_ 107 (List._∷_ 104 (List._∷_ 97 (List._∷_ 110 (List._∷_ 110 (List._∷_ 97 (List._∷_ 95 (List._∷_ 115
+      (List._∷_ 116 (List._∷_ 101 (List._∷_ 112 (List._∷_ 115 (List._∷_ 58 (List._∷_ 58 (List._∷_ 83 (List._∷_ 116 (List._∷_ 114 (List._∷_ 101 (List._∷_ 97 (List._∷_ 109
+      List.[])))))))))))))))))))))))))))))) (Syntax.tcons (Syntax.tyStruct (List._∷_ 102 (List._∷_ 114 (List._∷_ 97 (List._∷_ 99 (List._∷_ 116 (List._∷_ 105 (List._∷_ 111 (List._∷_
+      110 (List._∷_ 58 (List._∷_ 58 (List._∷_ 70 (List._∷_ 114 (List._∷_ 97 (List._∷_ 99 (List._∷_ 116 (List._∷_ 105 (List._∷_ 111 (List._∷_ 110 List.[]))))))))))))))))))
+      (Syntax.tcons (Syntax.tyInt Syntax.w32) (Syntax.tcons (Syntax.tyInt Syntax.w32) Syntax.tnil))) (Syntax.tcons (Syntax.tyInt Syntax.w32) (Syntax.tcons (Syntax.tyInt Syntax.w32)
+      Syntax.tnil)))),
+) (List._∷_ (2, Rows.sslice Of.R (Syntax.tyRef (Syntax.named 0) Syntax.imm Of.tyBy) 0) (List._∷_ (3, Rows.sc-here (Row.sInt Syntax.w64)) (List._∷_ (
+  4,
+  Reshare.mslice-owedS (Array.Array (Referent.rtF (Referent.fInt Syntax.w32)) 3) (Syntax.tyRef (Syntax.named 1) Syntax.mut (Syntax.tyArray (Syntax.tyInt Syntax.w32) 3)) 1 3
+      Row.off,
+) (List._∷_ (
+  5,
+  Rows.any-gone (Syntax.tyEnum (List._∷_ 103 (List._∷_ 114 (List._∷_ 101 (List._∷_ 101 (List._∷_ 110 (List._∷_ 119 (List._∷_ 97 (List._∷_ 108 (List._∷_
+      100 (List._∷_ 95 (List._∷_ 107 (List._∷_ 104 (List._∷_ 97 (List._∷_ 110 (List._∷_ 110 (List._∷_ 97 (List._∷_ 95 (List._∷_ 102 (List._∷_ 97 (List._∷_ 99 (List._∷_ 101 (List._∷_
+      58 (List._∷_ 58 (List._∷_ 112 (List._∷_ 97 (List._∷_ 114 (List._∷_ 116 (List._∷_ 115 (List._∷_ 58 (List._∷_ 58 (List._∷_ 81 (List._∷_ 117 (List._∷_ 101 (List._∷_ 115 (List._∷_
+      116 (List._∷_ 105 (List._∷_ 111 (List._∷_ 110 List.[])))))))))))))))))))))))))))))))))))))) (Syntax.ttcons (Syntax.tcons (Syntax.tyStruct (List._∷_ 102 (List._∷_ 114 (List._∷_
+      97 (List._∷_ 99 (List._∷_ 116 (List._∷_ 105 (List._∷_ 111 (List._∷_ 110 (List._∷_ 58 (List._∷_ 58 (List._∷_ 70 (List._∷_ 114 (List._∷_ 97 (List._∷_ 99 (List._∷_ 116 (List._∷_
+      105 (List._∷_ 111 (List._∷_ 110 List.[])))))))))))))))))) (Syntax.tcons (Syntax.tyInt Syntax.w32) (Syntax.tcons (Syntax.tyInt Syntax.w32) Syntax.tnil))) Syntax.tnil)
+      (Syntax.ttcons Syntax.tnil (Syntax.ttcons Syntax.tnil (Syntax.ttcons Syntax.tnil Syntax.ttnil))))),
+) (List._∷_ (6, Rows.any-gone Syntax.tyUnit) (List._∷_ (
+  7,
+  Rows.any-gone
+      (Syntax.tyRef Syntax.erased Syntax.mut (Syntax.tyArray (Syntax.tyInt Syntax.w32) 3)),
+) (List._∷_ (
+  8,
+  Rows.any-gone (Syntax.tyStruct (List._∷_ 38 (List._∷_ 91 (List._∷_ 93
+      List.[]))) (Syntax.tcons (Syntax.tyRef Syntax.erased Syntax.mut (Syntax.tyArray (Syntax.tyInt Syntax.w32) 3)) (Syntax.tcons (Syntax.tyInt Syntax.w64) Syntax.tnil))),
+)
+    (List._∷_ (9, Rows.any-gone (Syntax.tyRef Syntax.erased Syntax.imm (Syntax.tyArray (Syntax.tyInt Syntax.w32) 3))) (List._∷_ (
       10,
-      Rows.any-gone (Syntax.tyStruct (List._∷_ 38 (List._∷_ 91 (List._∷_ 93 List.[]))) (Syntax.tcons (Syntax.tyRef Syntax.erased Syntax.imm (Syntax.tyArray
-          (Syntax.tyInt Syntax.w32) 3)) (Syntax.tcons (Syntax.tyInt Syntax.w64) Syntax.tnil))),
+      Rows.any-gone (Syntax.tyStruct (List._∷_ 38
+          (List._∷_ 91 (List._∷_ 93 List.[]))) (Syntax.tcons (Syntax.tyRef Syntax.erased Syntax.imm (Syntax.tyArray (Syntax.tyInt Syntax.w32) 3)) (Syntax.tcons (Syntax.tyInt Syntax.w64)
+          Syntax.tnil))),
     ) List.[]))))))))))
 
 abbrev pub t12 : List.List Row.Entry
 t12 = List._∷_ (0, Rows.whole (Declared.row Answer.the-type)) (List._∷_ (
   1,
   Rows.any-gone (Syntax.tyStruct (List._∷_ 103 (List._∷_ 114 (List._∷_ 101 (List._∷_ 101 (List._∷_ 110
-      (List._∷_ 119 (List._∷_ 97 (List._∷_ 108 (List._∷_ 100 (List._∷_ 95 (List._∷_ 107 (List._∷_ 104 (List._∷_ 97 (List._∷_ 110 (List._∷_ 110 (List._∷_ 97 (List._∷_ 58 (List._∷_ 58
-      (List._∷_ 83 (List._∷_ 116 (List._∷_ 114 (List._∷_ 101 (List._∷_ 97 (List._∷_ 109 List.[])))))))))))))))))))))))) (Syntax.tcons (Syntax.tyStruct (List._∷_ 102 (List._∷_ 114
-      (List._∷_ 97 (List._∷_ 99 (List._∷_ 116 (List._∷_ 105 (List._∷_ 111 (List._∷_ 110 (List._∷_ 58 (List._∷_ 58 (List._∷_ 70 (List._∷_ 114 (List._∷_ 97 (List._∷_ 99 (List._∷_ 116
-      (List._∷_ 105 (List._∷_ 111 (List._∷_ 110 List.[])))))))))))))))))) (Syntax.tcons (Syntax.tyInt Syntax.w32) (Syntax.tcons (Syntax.tyInt Syntax.w32) Syntax.tnil))) (Syntax.tcons
-      (Syntax.tyInt Syntax.w32) (Syntax.tcons (Syntax.tyInt Syntax.w32) Syntax.tnil)))),
-) (List._∷_ (2, Rows.sslice Of.R (Syntax.tyRef (Syntax.named 0) Syntax.imm Of.tyBy) 0)
-    (List._∷_ (3, Rows.sc-here (Row.sInt Syntax.w64)) (List._∷_ (
-      4,
-      Mut.mslice (Array.Array (Referent.rtF (Referent.fInt Syntax.w32)) 3) (Syntax.tyRef (Syntax.named 1) Syntax.mut
-          (Syntax.tyArray (Syntax.tyInt Syntax.w32) 3)) 1,
-    ) (List._∷_ (
-      5,
-      Rows.any-gone (Syntax.tyEnum (List._∷_ 103 (List._∷_ 114 (List._∷_ 101 (List._∷_ 101 (List._∷_ 110 (List._∷_
-          119 (List._∷_ 97 (List._∷_ 108 (List._∷_ 100 (List._∷_ 95 (List._∷_ 107 (List._∷_ 104 (List._∷_ 97 (List._∷_ 110 (List._∷_ 110 (List._∷_ 97 (List._∷_ 95 (List._∷_ 102 (List._∷_
-          97 (List._∷_ 99 (List._∷_ 101 (List._∷_ 58 (List._∷_ 58 (List._∷_ 112 (List._∷_ 97 (List._∷_ 114 (List._∷_ 116 (List._∷_ 115 (List._∷_ 58 (List._∷_ 58 (List._∷_ 81 (List._∷_
-          117 (List._∷_ 101 (List._∷_ 115 (List._∷_ 116 (List._∷_ 105 (List._∷_ 111 (List._∷_ 110 List.[])))))))))))))))))))))))))))))))))))))) (Syntax.ttcons (Syntax.tcons
-          (Syntax.tyStruct (List._∷_ 102 (List._∷_ 114 (List._∷_ 97 (List._∷_ 99 (List._∷_ 116 (List._∷_ 105 (List._∷_ 111 (List._∷_ 110 (List._∷_ 58 (List._∷_ 58 (List._∷_ 70 (List._∷_
-          114 (List._∷_ 97 (List._∷_ 99 (List._∷_ 116 (List._∷_ 105 (List._∷_ 111 (List._∷_ 110 List.[])))))))))))))))))) (Syntax.tcons (Syntax.tyInt Syntax.w32) (Syntax.tcons
-          (Syntax.tyInt Syntax.w32) Syntax.tnil))) Syntax.tnil) (Syntax.ttcons Syntax.tnil (Syntax.ttcons Syntax.tnil (Syntax.ttcons Syntax.tnil Syntax.ttnil))))),
-    ) (List._∷_ (
-      6,
-      Rows.any-gone Syntax.tyUnit,
-    ) (List._∷_ (7, Rows.any-gone (Syntax.tyRef Syntax.erased Syntax.mut (Syntax.tyArray (Syntax.tyInt Syntax.w32) 3))) (List._∷_ (
-      8,
-      Rows.any-gone
-          (Syntax.tyStruct (List._∷_ 38 (List._∷_ 91 (List._∷_ 93 List.[]))) (Syntax.tcons (Syntax.tyRef Syntax.erased Syntax.mut (Syntax.tyArray (Syntax.tyInt Syntax.w32) 3))
-          (Syntax.tcons (Syntax.tyInt Syntax.w64) Syntax.tnil))),
-    ) (List._∷_ (9, Rows.any-gone (Syntax.tyRef Syntax.erased Syntax.imm (Syntax.tyArray (Syntax.tyInt Syntax.w32) 3)))
-    (List._∷_ (
-      10,
-      Rows.any-gone (Syntax.tyStruct (List._∷_ 38 (List._∷_ 91 (List._∷_ 93 List.[]))) (Syntax.tcons (Syntax.tyRef Syntax.erased Syntax.imm (Syntax.tyArray
-          (Syntax.tyInt Syntax.w32) 3)) (Syntax.tcons (Syntax.tyInt Syntax.w64) Syntax.tnil))),
-    ) List.[]))))))))))
+      (List._∷_ 119 (List._∷_ 97 (List._∷_ 108 (List._∷_ 100 (List._∷_ 95 (List._∷_ 107 (List._∷_ 104 (List._∷_ 97 (List._∷_ 110 (List._∷_ 110 (List._∷_ 97 (List._∷_ 95 (List._∷_ 115
+      (List._∷_ 116 (List._∷_ 101 (List._∷_ 112 (List._∷_ 115 (List._∷_ 58 (List._∷_ 58 (List._∷_ 83 (List._∷_ 116 (List._∷_ 114 (List._∷_ 101 (List._∷_ 97 (List._∷_ 109
+      List.[])))))))))))))))))))))))))))))) (Syntax.tcons (Syntax.tyStruct (List._∷_ 102 (List._∷_ 114 (List._∷_ 97 (List._∷_ 99 (List._∷_ 116 (List._∷_ 105 (List._∷_ 111 (List._∷_
+      110 (List._∷_ 58 (List._∷_ 58 (List._∷_ 70 (List._∷_ 114 (List._∷_ 97 (List._∷_ 99 (List._∷_ 116 (List._∷_ 105 (List._∷_ 111 (List._∷_ 110 List.[]))))))))))))))))))
+      (Syntax.tcons (Syntax.tyInt Syntax.w32) (Syntax.tcons (Syntax.tyInt Syntax.w32) Syntax.tnil))) (Syntax.tcons (Syntax.tyInt Syntax.w32) (Syntax.tcons (Syntax.tyInt Syntax.w32)
+      Syntax.tnil)))),
+) (List._∷_ (2, Rows.sslice Of.R (Syntax.tyRef (Syntax.named 0) Syntax.imm Of.tyBy) 0) (List._∷_ (3, Rows.sc-here (Row.sInt Syntax.w64)) (List._∷_ (
+  4,
+  Mut.mslice (Array.Array (Referent.rtF (Referent.fInt Syntax.w32)) 3) (Syntax.tyRef (Syntax.named 1) Syntax.mut (Syntax.tyArray (Syntax.tyInt Syntax.w32) 3)) 1,
+) (List._∷_ (
+  5,
+  Rows.any-gone (Syntax.tyEnum (List._∷_ 103 (List._∷_ 114 (List._∷_ 101 (List._∷_ 101 (List._∷_ 110 (List._∷_ 119 (List._∷_ 97 (List._∷_ 108 (List._∷_ 100 (List._∷_ 95 (List._∷_
+      107 (List._∷_ 104 (List._∷_ 97 (List._∷_ 110 (List._∷_ 110 (List._∷_ 97 (List._∷_ 95 (List._∷_ 102 (List._∷_ 97 (List._∷_ 99 (List._∷_ 101 (List._∷_ 58 (List._∷_ 58 (List._∷_
+      112 (List._∷_ 97 (List._∷_ 114 (List._∷_ 116 (List._∷_ 115 (List._∷_ 58 (List._∷_ 58 (List._∷_ 81 (List._∷_ 117 (List._∷_ 101 (List._∷_ 115 (List._∷_ 116 (List._∷_ 105
+      (List._∷_ 111 (List._∷_ 110 List.[])))))))))))))))))))))))))))))))))))))) (Syntax.ttcons (Syntax.tcons (Syntax.tyStruct (List._∷_ 102 (List._∷_ 114 (List._∷_ 97 (List._∷_ 99
+      (List._∷_ 116 (List._∷_ 105 (List._∷_ 111 (List._∷_ 110 (List._∷_ 58 (List._∷_ 58 (List._∷_ 70 (List._∷_ 114 (List._∷_ 97 (List._∷_ 99 (List._∷_ 116 (List._∷_ 105 (List._∷_ 111
+      (List._∷_ 110 List.[])))))))))))))))))) (Syntax.tcons (Syntax.tyInt Syntax.w32) (Syntax.tcons (Syntax.tyInt Syntax.w32) Syntax.tnil))) Syntax.tnil) (Syntax.ttcons Syntax.tnil
+      (Syntax.ttcons Syntax.tnil (Syntax.ttcons Syntax.tnil Syntax.ttnil))))),
+) (List._∷_ (6, Rows.any-gone Syntax.tyUnit) (List._∷_ (
+  7,
+  Rows.any-gone (Syntax.tyRef Syntax.erased
+      Syntax.mut (Syntax.tyArray (Syntax.tyInt Syntax.w32) 3)),
+) (List._∷_ (
+  8,
+  Rows.any-gone (Syntax.tyStruct (List._∷_ 38 (List._∷_ 91 (List._∷_ 93 List.[]))) (Syntax.tcons
+      (Syntax.tyRef Syntax.erased Syntax.mut (Syntax.tyArray (Syntax.tyInt Syntax.w32) 3)) (Syntax.tcons (Syntax.tyInt Syntax.w64) Syntax.tnil))),
+) (List._∷_ (
+  9,
+  Rows.any-gone
+      (Syntax.tyRef Syntax.erased Syntax.imm (Syntax.tyArray (Syntax.tyInt Syntax.w32) 3)),
+) (List._∷_ (
+  10,
+  Rows.any-gone (Syntax.tyStruct (List._∷_ 38 (List._∷_ 91 (List._∷_ 93
+      List.[]))) (Syntax.tcons (Syntax.tyRef Syntax.erased Syntax.imm (Syntax.tyArray (Syntax.tyInt Syntax.w32) 3)) (Syntax.tcons (Syntax.tyInt Syntax.w64) Syntax.tnil))),
+)
+    List.[]))))))))))
 
 abbrev pub T0 : Row.Cx
 T0 = record { locals = t0; slots = List.[] }
@@ -820,11 +837,11 @@ module _ (claims· : Claims) where
 
   abbrev s13 : Typed.Mo T14 → Typed.Mo T15
   s13 = Scalar.n-room T14 1 (Syntax.tyStruct (List._∷_ 103 (List._∷_ 114 (List._∷_ 101 (List._∷_ 101 (List._∷_ 110 (List._∷_ 119 (List._∷_ 97 (List._∷_ 108 (List._∷_ 100 (List._∷_
-      95 (List._∷_ 107 (List._∷_ 104 (List._∷_ 97 (List._∷_ 110 (List._∷_ 110 (List._∷_ 97 (List._∷_ 58 (List._∷_ 58 (List._∷_ 83 (List._∷_ 116 (List._∷_ 114 (List._∷_ 101
-      (List._∷_ 97 (List._∷_ 109 List.[])))))))))))))))))))))))) (Syntax.tcons (Syntax.tyStruct (List._∷_ 102 (List._∷_ 114 (List._∷_ 97 (List._∷_ 99 (List._∷_ 116 (List._∷_ 105
-      (List._∷_ 111 (List._∷_ 110 (List._∷_ 58 (List._∷_ 58 (List._∷_ 70 (List._∷_ 114 (List._∷_ 97 (List._∷_ 99 (List._∷_ 116 (List._∷_ 105 (List._∷_ 111 (List._∷_ 110
-      List.[])))))))))))))))))) (Syntax.tcons (Syntax.tyInt Syntax.w32) (Syntax.tcons (Syntax.tyInt Syntax.w32) Syntax.tnil))) (Syntax.tcons (Syntax.tyInt Syntax.w32) (Syntax.tcons
-      (Syntax.tyInt Syntax.w32) Syntax.tnil))))
+      95 (List._∷_ 107 (List._∷_ 104 (List._∷_ 97 (List._∷_ 110 (List._∷_ 110 (List._∷_ 97 (List._∷_ 95 (List._∷_ 115 (List._∷_ 116 (List._∷_ 101 (List._∷_ 112 (List._∷_ 115
+      (List._∷_ 58 (List._∷_ 58 (List._∷_ 83 (List._∷_ 116 (List._∷_ 114 (List._∷_ 101 (List._∷_ 97 (List._∷_ 109 List.[])))))))))))))))))))))))))))))) (Syntax.tcons
+      (Syntax.tyStruct (List._∷_ 102 (List._∷_ 114 (List._∷_ 97 (List._∷_ 99 (List._∷_ 116 (List._∷_ 105 (List._∷_ 111 (List._∷_ 110 (List._∷_ 58 (List._∷_ 58 (List._∷_ 70
+      (List._∷_ 114 (List._∷_ 97 (List._∷_ 99 (List._∷_ 116 (List._∷_ 105 (List._∷_ 111 (List._∷_ 110 List.[])))))))))))))))))) (Syntax.tcons (Syntax.tyInt Syntax.w32)
+      (Syntax.tcons (Syntax.tyInt Syntax.w32) Syntax.tnil))) (Syntax.tcons (Syntax.tyInt Syntax.w32) (Syntax.tcons (Syntax.tyInt Syntax.w32) Syntax.tnil))))
 
   abbrev s14 : Typed.Mo T15 → Typed.Mo T16
   s14 = Scalar.n-room T15 5 (Syntax.tyEnum (List._∷_ 103 (List._∷_ 114 (List._∷_ 101 (List._∷_ 101 (List._∷_ 110 (List._∷_ 119 (List._∷_ 97 (List._∷_ 108 (List._∷_ 100 (List._∷_ 95
@@ -1189,32 +1206,31 @@ module _ (claims· : Claims) where
           1,
           Rows.any-gone (Syntax.tyStruct (List._∷_ 103 (List._∷_ 114 (List._∷_ 101 (List._∷_ 101
               (List._∷_ 110 (List._∷_ 119 (List._∷_ 97 (List._∷_ 108 (List._∷_ 100 (List._∷_ 95 (List._∷_ 107 (List._∷_ 104 (List._∷_ 97 (List._∷_ 110 (List._∷_ 110 (List._∷_ 97
-              (List._∷_ 58 (List._∷_ 58 (List._∷_ 83 (List._∷_ 116 (List._∷_ 114 (List._∷_ 101 (List._∷_ 97 (List._∷_ 109 List.[])))))))))))))))))))))))) (Syntax.tcons
-              (Syntax.tyStruct (List._∷_ 102 (List._∷_ 114 (List._∷_ 97 (List._∷_ 99 (List._∷_ 116 (List._∷_ 105 (List._∷_ 111 (List._∷_ 110 (List._∷_ 58 (List._∷_ 58 (List._∷_ 70
-              (List._∷_ 114 (List._∷_ 97 (List._∷_ 99 (List._∷_ 116 (List._∷_ 105 (List._∷_ 111 (List._∷_ 110 List.[])))))))))))))))))) (Syntax.tcons (Syntax.tyInt Syntax.w32)
-              (Syntax.tcons (Syntax.tyInt Syntax.w32) Syntax.tnil))) (Syntax.tcons (Syntax.tyInt Syntax.w32) (Syntax.tcons (Syntax.tyInt Syntax.w32) Syntax.tnil)))),
-        ) (List._∷_ (
-          2,
-          Rows.sslice Of.R (Syntax.tyRef (Syntax.named 0) Syntax.imm Of.tyBy) 0,
-        ) (List._∷_ (3, Rows.sc-here (Row.sInt Syntax.w64)) (List._∷_ (
-          4,
-          Reshare.mslice-owedS
-              (Array.Array (Referent.rtF (Referent.fInt Syntax.w32)) 3) (Syntax.tyRef (Syntax.named 1) Syntax.mut (Syntax.tyArray (Syntax.tyInt Syntax.w32) 3)) 1 3 (Row.lease (κs .1
-              .0) (qs .1 .0)),
-        ) (List._∷_ (5, Rows.whole (Declared.row Question.the-type)) (List._∷_ (6, Rows.any-gone Syntax.tyUnit) (List._∷_ (
-          7,
-          Rows.any-gone (Syntax.tyRef
-              Syntax.erased Syntax.mut (Syntax.tyArray (Syntax.tyInt Syntax.w32) 3)),
-        ) (List._∷_ (
-          8,
-          Rows.any-gone (Syntax.tyStruct (List._∷_ 38 (List._∷_ 91 (List._∷_ 93
-              List.[]))) (Syntax.tcons (Syntax.tyRef Syntax.erased Syntax.mut (Syntax.tyArray (Syntax.tyInt Syntax.w32) 3)) (Syntax.tcons (Syntax.tyInt Syntax.w64) Syntax.tnil))),
-        )
-            (List._∷_ (9, Rows.any-gone (Syntax.tyRef Syntax.erased Syntax.imm (Syntax.tyArray (Syntax.tyInt Syntax.w32) 3))) (List._∷_ (
+              (List._∷_ 95 (List._∷_ 115 (List._∷_ 116 (List._∷_ 101 (List._∷_ 112 (List._∷_ 115 (List._∷_ 58 (List._∷_ 58 (List._∷_ 83 (List._∷_ 116 (List._∷_ 114 (List._∷_ 101
+              (List._∷_ 97 (List._∷_ 109 List.[])))))))))))))))))))))))))))))) (Syntax.tcons (Syntax.tyStruct (List._∷_ 102 (List._∷_ 114 (List._∷_ 97 (List._∷_ 99 (List._∷_ 116
+              (List._∷_ 105 (List._∷_ 111 (List._∷_ 110 (List._∷_ 58 (List._∷_ 58 (List._∷_ 70 (List._∷_ 114 (List._∷_ 97 (List._∷_ 99 (List._∷_ 116 (List._∷_ 105 (List._∷_ 111
+              (List._∷_ 110 List.[])))))))))))))))))) (Syntax.tcons (Syntax.tyInt Syntax.w32) (Syntax.tcons (Syntax.tyInt Syntax.w32) Syntax.tnil))) (Syntax.tcons (Syntax.tyInt
+              Syntax.w32) (Syntax.tcons (Syntax.tyInt Syntax.w32) Syntax.tnil)))),
+        ) (List._∷_ (2, Rows.sslice Of.R (Syntax.tyRef (Syntax.named 0) Syntax.imm Of.tyBy) 0) (List._∷_
+            (3, Rows.sc-here (Row.sInt Syntax.w64)) (List._∷_ (
+              4,
+              Reshare.mslice-owedS (Array.Array (Referent.rtF (Referent.fInt Syntax.w32)) 3) (Syntax.tyRef (Syntax.named 1)
+                  Syntax.mut (Syntax.tyArray (Syntax.tyInt Syntax.w32) 3)) 1 3 (Row.lease (κs .1 .0) (qs .1 .0)),
+            ) (List._∷_ (5, Rows.whole (Declared.row Question.the-type)) (List._∷_ (
+              6,
+              Rows.any-gone Syntax.tyUnit,
+            ) (List._∷_ (7, Rows.any-gone (Syntax.tyRef Syntax.erased Syntax.mut (Syntax.tyArray (Syntax.tyInt Syntax.w32) 3))) (List._∷_ (
+              8,
+              Rows.any-gone (Syntax.tyStruct (List._∷_ 38 (List._∷_ 91 (List._∷_ 93 List.[]))) (Syntax.tcons (Syntax.tyRef Syntax.erased Syntax.mut (Syntax.tyArray (Syntax.tyInt
+                  Syntax.w32) 3)) (Syntax.tcons (Syntax.tyInt Syntax.w64) Syntax.tnil))),
+            ) (List._∷_ (
+              9,
+              Rows.any-gone (Syntax.tyRef Syntax.erased Syntax.imm (Syntax.tyArray
+                  (Syntax.tyInt Syntax.w32) 3)),
+            ) (List._∷_ (
               10,
-              Rows.any-gone (Syntax.tyStruct
-                  (List._∷_ 38 (List._∷_ 91 (List._∷_ 93 List.[]))) (Syntax.tcons (Syntax.tyRef Syntax.erased Syntax.imm (Syntax.tyArray (Syntax.tyInt Syntax.w32) 3)) (Syntax.tcons
-                  (Syntax.tyInt Syntax.w64) Syntax.tnil))),
+              Rows.any-gone (Syntax.tyStruct (List._∷_ 38 (List._∷_ 91 (List._∷_ 93 List.[]))) (Syntax.tcons (Syntax.tyRef
+                  Syntax.erased Syntax.imm (Syntax.tyArray (Syntax.tyInt Syntax.w32) 3)) (Syntax.tcons (Syntax.tyInt Syntax.w64) Syntax.tnil))),
             ) List.[]))))))))))
 
         abbrev g11 : List.List Row.Entry
@@ -1222,46 +1238,41 @@ module _ (claims· : Claims) where
           1,
           Rows.any-gone (Syntax.tyStruct (List._∷_ 103 (List._∷_ 114 (List._∷_ 101 (List._∷_ 101
               (List._∷_ 110 (List._∷_ 119 (List._∷_ 97 (List._∷_ 108 (List._∷_ 100 (List._∷_ 95 (List._∷_ 107 (List._∷_ 104 (List._∷_ 97 (List._∷_ 110 (List._∷_ 110 (List._∷_ 97
-              (List._∷_ 58 (List._∷_ 58 (List._∷_ 83 (List._∷_ 116 (List._∷_ 114 (List._∷_ 101 (List._∷_ 97 (List._∷_ 109 List.[])))))))))))))))))))))))) (Syntax.tcons
-              (Syntax.tyStruct (List._∷_ 102 (List._∷_ 114 (List._∷_ 97 (List._∷_ 99 (List._∷_ 116 (List._∷_ 105 (List._∷_ 111 (List._∷_ 110 (List._∷_ 58 (List._∷_ 58 (List._∷_ 70
-              (List._∷_ 114 (List._∷_ 97 (List._∷_ 99 (List._∷_ 116 (List._∷_ 105 (List._∷_ 111 (List._∷_ 110 List.[])))))))))))))))))) (Syntax.tcons (Syntax.tyInt Syntax.w32)
-              (Syntax.tcons (Syntax.tyInt Syntax.w32) Syntax.tnil))) (Syntax.tcons (Syntax.tyInt Syntax.w32) (Syntax.tcons (Syntax.tyInt Syntax.w32) Syntax.tnil)))),
-        ) (List._∷_ (
-          2,
-          Rows.sslice Of.R (Syntax.tyRef (Syntax.named 0) Syntax.imm Of.tyBy) 0,
-        ) (List._∷_ (3, Rows.sc-here (Row.sInt Syntax.w64)) (List._∷_ (
-          4,
-          Reshare.mslice-owedS
-              (Array.Array (Referent.rtF (Referent.fInt Syntax.w32)) 3) (Syntax.tyRef (Syntax.named 1) Syntax.mut (Syntax.tyArray (Syntax.tyInt Syntax.w32) 3)) 1 3 (Row.lease (κs .1
-              .0) (qs .1 .0)),
-        ) (List._∷_ (
-          5,
-          Rows.any-gone (Syntax.tyEnum (List._∷_ 103 (List._∷_ 114 (List._∷_ 101 (List._∷_ 101 (List._∷_ 110 (List._∷_ 119 (List._∷_ 97
-              (List._∷_ 108 (List._∷_ 100 (List._∷_ 95 (List._∷_ 107 (List._∷_ 104 (List._∷_ 97 (List._∷_ 110 (List._∷_ 110 (List._∷_ 97 (List._∷_ 95 (List._∷_ 102 (List._∷_ 97
-              (List._∷_ 99 (List._∷_ 101 (List._∷_ 58 (List._∷_ 58 (List._∷_ 112 (List._∷_ 97 (List._∷_ 114 (List._∷_ 116 (List._∷_ 115 (List._∷_ 58 (List._∷_ 58 (List._∷_ 81
-              (List._∷_ 117 (List._∷_ 101 (List._∷_ 115 (List._∷_ 116 (List._∷_ 105 (List._∷_ 111 (List._∷_ 110 List.[])))))))))))))))))))))))))))))))))))))) (Syntax.ttcons
-              (Syntax.tcons (Syntax.tyStruct (List._∷_ 102 (List._∷_ 114 (List._∷_ 97 (List._∷_ 99 (List._∷_ 116 (List._∷_ 105 (List._∷_ 111 (List._∷_ 110 (List._∷_ 58 (List._∷_ 58
-              (List._∷_ 70 (List._∷_ 114 (List._∷_ 97 (List._∷_ 99 (List._∷_ 116 (List._∷_ 105 (List._∷_ 111 (List._∷_ 110 List.[])))))))))))))))))) (Syntax.tcons (Syntax.tyInt
-              Syntax.w32) (Syntax.tcons (Syntax.tyInt Syntax.w32) Syntax.tnil))) Syntax.tnil) (Syntax.ttcons Syntax.tnil (Syntax.ttcons Syntax.tnil (Syntax.ttcons Syntax.tnil
-              Syntax.ttnil))))),
-        ) (List._∷_ (6, Rows.any-gone Syntax.tyUnit) (List._∷_ (
-          7,
-          Rows.any-gone (Syntax.tyRef Syntax.erased Syntax.mut (Syntax.tyArray (Syntax.tyInt
-              Syntax.w32) 3)),
-        ) (List._∷_ (
-          8,
-          Rows.any-gone (Syntax.tyStruct (List._∷_ 38 (List._∷_ 91 (List._∷_ 93 List.[]))) (Syntax.tcons (Syntax.tyRef Syntax.erased Syntax.mut
-              (Syntax.tyArray (Syntax.tyInt Syntax.w32) 3)) (Syntax.tcons (Syntax.tyInt Syntax.w64) Syntax.tnil))),
-        ) (List._∷_ (
-          9,
-          Rows.any-gone (Syntax.tyRef Syntax.erased
-              Syntax.imm (Syntax.tyArray (Syntax.tyInt Syntax.w32) 3)),
-        ) (List._∷_ (
-          10,
-          Rows.any-gone (Syntax.tyStruct (List._∷_ 38 (List._∷_ 91 (List._∷_ 93 List.[])))
-              (Syntax.tcons (Syntax.tyRef Syntax.erased Syntax.imm (Syntax.tyArray (Syntax.tyInt Syntax.w32) 3)) (Syntax.tcons (Syntax.tyInt Syntax.w64) Syntax.tnil))),
-        )
-            List.[]))))))))))
+              (List._∷_ 95 (List._∷_ 115 (List._∷_ 116 (List._∷_ 101 (List._∷_ 112 (List._∷_ 115 (List._∷_ 58 (List._∷_ 58 (List._∷_ 83 (List._∷_ 116 (List._∷_ 114 (List._∷_ 101
+              (List._∷_ 97 (List._∷_ 109 List.[])))))))))))))))))))))))))))))) (Syntax.tcons (Syntax.tyStruct (List._∷_ 102 (List._∷_ 114 (List._∷_ 97 (List._∷_ 99 (List._∷_ 116
+              (List._∷_ 105 (List._∷_ 111 (List._∷_ 110 (List._∷_ 58 (List._∷_ 58 (List._∷_ 70 (List._∷_ 114 (List._∷_ 97 (List._∷_ 99 (List._∷_ 116 (List._∷_ 105 (List._∷_ 111
+              (List._∷_ 110 List.[])))))))))))))))))) (Syntax.tcons (Syntax.tyInt Syntax.w32) (Syntax.tcons (Syntax.tyInt Syntax.w32) Syntax.tnil))) (Syntax.tcons (Syntax.tyInt
+              Syntax.w32) (Syntax.tcons (Syntax.tyInt Syntax.w32) Syntax.tnil)))),
+        ) (List._∷_ (2, Rows.sslice Of.R (Syntax.tyRef (Syntax.named 0) Syntax.imm Of.tyBy) 0) (List._∷_
+            (3, Rows.sc-here (Row.sInt Syntax.w64)) (List._∷_ (
+              4,
+              Reshare.mslice-owedS (Array.Array (Referent.rtF (Referent.fInt Syntax.w32)) 3) (Syntax.tyRef (Syntax.named 1)
+                  Syntax.mut (Syntax.tyArray (Syntax.tyInt Syntax.w32) 3)) 1 3 (Row.lease (κs .1 .0) (qs .1 .0)),
+            ) (List._∷_ (
+              5,
+              Rows.any-gone (Syntax.tyEnum (List._∷_ 103 (List._∷_
+                  114 (List._∷_ 101 (List._∷_ 101 (List._∷_ 110 (List._∷_ 119 (List._∷_ 97 (List._∷_ 108 (List._∷_ 100 (List._∷_ 95 (List._∷_ 107 (List._∷_ 104 (List._∷_ 97 (List._∷_ 110
+                  (List._∷_ 110 (List._∷_ 97 (List._∷_ 95 (List._∷_ 102 (List._∷_ 97 (List._∷_ 99 (List._∷_ 101 (List._∷_ 58 (List._∷_ 58 (List._∷_ 112 (List._∷_ 97 (List._∷_ 114
+                  (List._∷_ 116 (List._∷_ 115 (List._∷_ 58 (List._∷_ 58 (List._∷_ 81 (List._∷_ 117 (List._∷_ 101 (List._∷_ 115 (List._∷_ 116 (List._∷_ 105 (List._∷_ 111 (List._∷_ 110
+                  List.[])))))))))))))))))))))))))))))))))))))) (Syntax.ttcons (Syntax.tcons (Syntax.tyStruct (List._∷_ 102 (List._∷_ 114 (List._∷_ 97 (List._∷_ 99 (List._∷_ 116
+                  (List._∷_ 105 (List._∷_ 111 (List._∷_ 110 (List._∷_ 58 (List._∷_ 58 (List._∷_ 70 (List._∷_ 114 (List._∷_ 97 (List._∷_ 99 (List._∷_ 116 (List._∷_ 105 (List._∷_ 111
+                  (List._∷_ 110 List.[])))))))))))))))))) (Syntax.tcons (Syntax.tyInt Syntax.w32) (Syntax.tcons (Syntax.tyInt Syntax.w32) Syntax.tnil))) Syntax.tnil) (Syntax.ttcons
+                  Syntax.tnil (Syntax.ttcons Syntax.tnil (Syntax.ttcons Syntax.tnil Syntax.ttnil))))),
+            ) (List._∷_ (6, Rows.any-gone Syntax.tyUnit) (List._∷_ (
+              7,
+              Rows.any-gone
+                  (Syntax.tyRef Syntax.erased Syntax.mut (Syntax.tyArray (Syntax.tyInt Syntax.w32) 3)),
+            ) (List._∷_ (
+              8,
+              Rows.any-gone (Syntax.tyStruct (List._∷_ 38 (List._∷_ 91
+                  (List._∷_ 93 List.[]))) (Syntax.tcons (Syntax.tyRef Syntax.erased Syntax.mut (Syntax.tyArray (Syntax.tyInt Syntax.w32) 3)) (Syntax.tcons (Syntax.tyInt Syntax.w64)
+                  Syntax.tnil))),
+            ) (List._∷_ (9, Rows.any-gone (Syntax.tyRef Syntax.erased Syntax.imm (Syntax.tyArray (Syntax.tyInt Syntax.w32) 3))) (List._∷_ (
+              10,
+              Rows.any-gone
+                  (Syntax.tyStruct (List._∷_ 38 (List._∷_ 91 (List._∷_ 93 List.[]))) (Syntax.tcons (Syntax.tyRef Syntax.erased Syntax.imm (Syntax.tyArray (Syntax.tyInt Syntax.w32) 3))
+                  (Syntax.tcons (Syntax.tyInt Syntax.w64) Syntax.tnil))),
+            ) List.[]))))))))))
 
         abbrev G0 : Row.Cx
         G0 = record { locals = t0; slots = List._∷_ (Row.lease (κs .0) (qs .0)) (List._∷_ (Row.lease (κs .1 .0) (qs .1 .0)) (List._∷_ Row.off (List._∷_ Row.off List.[]))) }
@@ -1373,16 +1384,17 @@ module _ (claims· : Claims) where
           d6 : Typed.Typed 𝓤 H A 𝓣 E G14 b6 Δ0 at6
           d6 = Typed.g-pre 𝓤 H A W 𝓣 E G14 G15 b6 Δ0 (Typed.pass T14 T15 s13) at5 (Scalar.g-room 𝓤 H A W E G14 1 (Syntax.tyStruct (List._∷_ 103 (List._∷_ 114 (List._∷_ 101
               (List._∷_ 101 (List._∷_ 110 (List._∷_ 119 (List._∷_ 97 (List._∷_ 108 (List._∷_ 100 (List._∷_ 95 (List._∷_ 107 (List._∷_ 104 (List._∷_ 97 (List._∷_ 110 (List._∷_ 110
-              (List._∷_ 97 (List._∷_ 58 (List._∷_ 58 (List._∷_ 83 (List._∷_ 116 (List._∷_ 114 (List._∷_ 101 (List._∷_ 97 (List._∷_ 109 List.[])))))))))))))))))))))))) (Syntax.tcons
-              (Syntax.tyStruct (List._∷_ 102 (List._∷_ 114 (List._∷_ 97 (List._∷_ 99 (List._∷_ 116 (List._∷_ 105 (List._∷_ 111 (List._∷_ 110 (List._∷_ 58 (List._∷_ 58 (List._∷_ 70
-              (List._∷_ 114 (List._∷_ 97 (List._∷_ 99 (List._∷_ 116 (List._∷_ 105 (List._∷_ 111 (List._∷_ 110 List.[])))))))))))))))))) (Syntax.tcons (Syntax.tyInt Syntax.w32)
-              (Syntax.tcons (Syntax.tyInt Syntax.w32) Syntax.tnil))) (Syntax.tcons (Syntax.tyInt Syntax.w32) (Syntax.tcons (Syntax.tyInt Syntax.w32) Syntax.tnil))))
-              (Local.room-whole 𝓤 H A W (Declared'.row Stream.the-type) (Syntax.tyStruct (List._∷_ 103 (List._∷_ 114 (List._∷_ 101 (List._∷_ 101 (List._∷_ 110 (List._∷_ 119
-              (List._∷_ 97 (List._∷_ 108 (List._∷_ 100 (List._∷_ 95 (List._∷_ 107 (List._∷_ 104 (List._∷_ 97 (List._∷_ 110 (List._∷_ 110 (List._∷_ 97 (List._∷_ 58 (List._∷_ 58
-              (List._∷_ 83 (List._∷_ 116 (List._∷_ 114 (List._∷_ 101 (List._∷_ 97 (List._∷_ 109 List.[])))))))))))))))))))))))) (Syntax.tcons (Syntax.tyStruct (List._∷_ 102
-              (List._∷_ 114 (List._∷_ 97 (List._∷_ 99 (List._∷_ 116 (List._∷_ 105 (List._∷_ 111 (List._∷_ 110 (List._∷_ 58 (List._∷_ 58 (List._∷_ 70 (List._∷_ 114 (List._∷_ 97
-              (List._∷_ 99 (List._∷_ 116 (List._∷_ 105 (List._∷_ 111 (List._∷_ 110 List.[])))))))))))))))))) (Syntax.tcons (Syntax.tyInt Syntax.w32) (Syntax.tcons (Syntax.tyInt
-              Syntax.w32) Syntax.tnil))) (Syntax.tcons (Syntax.tyInt Syntax.w32) (Syntax.tcons (Syntax.tyInt Syntax.w32) Syntax.tnil)))) Path'.refl)) d5
+              (List._∷_ 97 (List._∷_ 95 (List._∷_ 115 (List._∷_ 116 (List._∷_ 101 (List._∷_ 112 (List._∷_ 115 (List._∷_ 58 (List._∷_ 58 (List._∷_ 83 (List._∷_ 116 (List._∷_ 114
+              (List._∷_ 101 (List._∷_ 97 (List._∷_ 109 List.[])))))))))))))))))))))))))))))) (Syntax.tcons (Syntax.tyStruct (List._∷_ 102 (List._∷_ 114 (List._∷_ 97 (List._∷_ 99
+              (List._∷_ 116 (List._∷_ 105 (List._∷_ 111 (List._∷_ 110 (List._∷_ 58 (List._∷_ 58 (List._∷_ 70 (List._∷_ 114 (List._∷_ 97 (List._∷_ 99 (List._∷_ 116 (List._∷_ 105
+              (List._∷_ 111 (List._∷_ 110 List.[])))))))))))))))))) (Syntax.tcons (Syntax.tyInt Syntax.w32) (Syntax.tcons (Syntax.tyInt Syntax.w32) Syntax.tnil))) (Syntax.tcons
+              (Syntax.tyInt Syntax.w32) (Syntax.tcons (Syntax.tyInt Syntax.w32) Syntax.tnil)))) (Local.room-whole 𝓤 H A W (Declared'.row Stream.the-type) (Syntax.tyStruct (List._∷_
+              103 (List._∷_ 114 (List._∷_ 101 (List._∷_ 101 (List._∷_ 110 (List._∷_ 119 (List._∷_ 97 (List._∷_ 108 (List._∷_ 100 (List._∷_ 95 (List._∷_ 107 (List._∷_ 104 (List._∷_
+              97 (List._∷_ 110 (List._∷_ 110 (List._∷_ 97 (List._∷_ 95 (List._∷_ 115 (List._∷_ 116 (List._∷_ 101 (List._∷_ 112 (List._∷_ 115 (List._∷_ 58 (List._∷_ 58 (List._∷_ 83
+              (List._∷_ 116 (List._∷_ 114 (List._∷_ 101 (List._∷_ 97 (List._∷_ 109 List.[])))))))))))))))))))))))))))))) (Syntax.tcons (Syntax.tyStruct (List._∷_ 102 (List._∷_ 114
+              (List._∷_ 97 (List._∷_ 99 (List._∷_ 116 (List._∷_ 105 (List._∷_ 111 (List._∷_ 110 (List._∷_ 58 (List._∷_ 58 (List._∷_ 70 (List._∷_ 114 (List._∷_ 97 (List._∷_ 99
+              (List._∷_ 116 (List._∷_ 105 (List._∷_ 111 (List._∷_ 110 List.[])))))))))))))))))) (Syntax.tcons (Syntax.tyInt Syntax.w32) (Syntax.tcons (Syntax.tyInt Syntax.w32)
+              Syntax.tnil))) (Syntax.tcons (Syntax.tyInt Syntax.w32) (Syntax.tcons (Syntax.tyInt Syntax.w32) Syntax.tnil)))) Path'.refl)) d5
 
           d7 : Typed.Typed 𝓤 H A 𝓣 E G13 b6 Δ0 at7
           d7 = Typed.g-pre 𝓤 H A W 𝓣 E G13 G14 b6 Δ0 (Typed.pass T13 T14 s12) at6 (Scalar.g-room 𝓤 H A W E G13 10 (Syntax.tyStruct (List._∷_ 38 (List._∷_ 91 (List._∷_ 93 List.[])))
@@ -1407,7 +1419,7 @@ module _ (claims· : Claims) where
               (Call.sub-id 𝓤 H A W (G12 .slots)) (
                 (
                   Yields.yields-copy 𝓤 H A W (λ ρ. Unit) (Declared'.row Stream.the-type) Path'.refl (Copies.cStruct Stream.the-type
-                      Laws'.the-laws Laws'.the-copy .copy 𝓤 H A W) (Rows.whole (Declared'.row Stream.the-type)) (λ x. x) (λ x. x) (λ ρ told. Local.mem-whole 𝓤 H A W (Declared'.row
+                      Laws''.the-laws Laws''.the-copy .copy 𝓤 H A W) (Rows.whole (Declared'.row Stream.the-type)) (λ x. x) (λ x. x) (λ ρ told. Local.mem-whole 𝓤 H A W (Declared'.row
                       Stream.the-type) ρ) λ ρ told. Local.whole-mem 𝓤 H A W (Declared'.row Stream.the-type) ρ,
                   Path'.refl,
                 ),
@@ -1426,7 +1438,7 @@ module _ (claims· : Claims) where
                     (
                       (
                         Yields.yields-copy 𝓤 H A W (λ ρ. Unit) (Declared.row Question.the-type) Path'.refl (Copies.cEnum Question.the-type
-                            Laws''.the-laws Laws''.the-copy .copy 𝓤 H A W) (Rows.whole (Declared.row Question.the-type)) (λ x. x) (λ x. x) (λ ρ told. Local.mem-whole 𝓤 H A W (Declared.row
+                            Laws'.the-laws Laws'.the-copy .copy 𝓤 H A W) (Rows.whole (Declared.row Question.the-type)) (λ x. x) (λ x. x) (λ ρ told. Local.mem-whole 𝓤 H A W (Declared.row
                             Question.the-type) ρ) λ ρ told. Local.whole-mem 𝓤 H A W (Declared.row Question.the-type) ρ,
                         Path'.refl,
                       ),
@@ -1550,18 +1562,19 @@ module _ (claims· : Claims) where
           pub stream : Kinds.Den {n = 2} κs (Value.pVal record {
             ty = Declared'.row Stream.the-type;
             one = Path'.refl;
-            val = Laws'4.val Stream.the-type Laws'.the-laws;
+            val = Laws'4.val Stream.the-type Laws''.the-laws;
             tells =
-                Laws'4.tells Stream.the-type Laws'.the-laws;
-            still = Laws'4.still Stream.the-type Laws'.the-copy Exit.yes;
+                Laws'4.tells Stream.the-type Laws''.the-laws;
+            still = Laws'4.still Stream.the-type Laws''.the-copy Exit.yes;
             row = Rows.whole (Declared'.row Stream.the-type);
-            rd = λ x.
-                x;
+            rd = λ
+                x. x;
             mk = λ x. x;
           } λ M 𝓤 H A W. record {
-            copies = Laws'4.copy Stream.the-type Laws'.the-copy 𝓤 H A W;
-            lawful = Laws'4.lawful Stream.the-type Laws'.the-laws 𝓤 H A W;
-            makes = Laws'4.makes Stream.the-type Laws'.the-plain 𝓤 H A;
+            copies = Laws'4.copy Stream.the-type Laws''.the-copy 𝓤 H A W;
+            lawful = Laws'4.lawful Stream.the-type Laws''.the-laws 𝓤 H A
+                W;
+            makes = Laws'4.makes Stream.the-type Laws''.the-plain 𝓤 H A;
             in-mem = Local.mem-whole 𝓤 H A W (Declared'.row Stream.the-type);
             of-mem = Local.whole-mem 𝓤 H A W
                 (Declared'.row Stream.the-type);
@@ -1572,21 +1585,22 @@ module _ (claims· : Claims) where
           pub question : Kinds.Den {n = 2} κs (Value.pVal record {
             ty = Declared.row Question.the-type;
             one = Path'.refl;
-            val = Laws'3.val Question.the-type Laws''.the-laws;
-            tells
-                = Laws'3.tells Question.the-type Laws''.the-laws;
-            still = Laws'3.still Question.the-type Laws''.the-copy Exit.yes;
+            val = Laws'3.val Question.the-type Laws'.the-laws;
+            tells =
+                Laws'3.tells Question.the-type Laws'.the-laws;
+            still = Laws'3.still Question.the-type Laws'.the-copy Exit.yes;
             row = Rows.whole (Declared.row Question.the-type);
-            rd = λ x. x;
+            rd =
+                λ x. x;
             mk = λ x. x;
           } λ M 𝓤 H A W. record {
-            copies = Laws'3.copy Question.the-type Laws''.the-copy 𝓤 H A W;
-            lawful = Laws'3.lawful Question.the-type
-                Laws''.the-laws 𝓤 H A W tt;
-            makes = Laws'3.makes Question.the-type Laws''.the-plain 𝓤 H A;
+            copies = Laws'3.copy Question.the-type Laws'.the-copy 𝓤 H A W;
+            lawful = Laws'3.lawful Question.the-type Laws'.the-laws 𝓤
+                H A W tt;
+            makes = Laws'3.makes Question.the-type Laws'.the-plain 𝓤 H A;
             in-mem = Local.mem-whole 𝓤 H A W (Declared.row Question.the-type);
-            of-mem =
-                Local.whole-mem 𝓤 H A W (Declared.row Question.the-type);
+            of-mem = Local.whole-mem 𝓤
+                H A W (Declared.row Question.the-type);
           })
 
         abbrev pub dens : (a : Args) → Kinds.Dens κs ps

@@ -3,8 +3,8 @@ use Rattle.entries_face.proofs.Of
 use Prim.Native.Nat
 use Rattle.greenwald_khanna.proofs.Inserted
 use Rattle.greenwald_khanna.proofs.Inserted.Laws
-use Rattle.greenwald_khanna.proofs.Stream
-use Rattle.greenwald_khanna.proofs.Stream.Laws as Laws'
+use Rattle.greenwald_khanna_steps.proofs.Stream
+use Rattle.greenwald_khanna_steps.proofs.Stream.Laws as Laws'
 use Rattle.refusal.proofs.Refusal
 use Rattle.refusal.proofs.Refusal.Laws as Laws''
 use borrow.Author.Called
@@ -365,76 +365,19 @@ t0 = List._∷_ (
       (List._∷_ 95 (List._∷_ 107 (List._∷_ 104 (List._∷_ 97 (List._∷_ 110 (List._∷_ 110 (List._∷_ 97 (List._∷_ 58 (List._∷_ 58 (List._∷_ 73 (List._∷_ 110 (List._∷_ 115 (List._∷_ 101
       (List._∷_ 114 (List._∷_ 116 (List._∷_ 101 (List._∷_ 100 List.[])))))))))))))))))))))))))) (Syntax.ttcons (Syntax.tcons (Syntax.tyStruct (List._∷_ 103 (List._∷_ 114 (List._∷_
       101 (List._∷_ 101 (List._∷_ 110 (List._∷_ 119 (List._∷_ 97 (List._∷_ 108 (List._∷_ 100 (List._∷_ 95 (List._∷_ 107 (List._∷_ 104 (List._∷_ 97 (List._∷_ 110 (List._∷_ 110
-      (List._∷_ 97 (List._∷_ 58 (List._∷_ 58 (List._∷_ 83 (List._∷_ 116 (List._∷_ 114 (List._∷_ 101 (List._∷_ 97 (List._∷_ 109 List.[])))))))))))))))))))))))) (Syntax.tcons
-      (Syntax.tyStruct (List._∷_ 102 (List._∷_ 114 (List._∷_ 97 (List._∷_ 99 (List._∷_ 116 (List._∷_ 105 (List._∷_ 111 (List._∷_ 110 (List._∷_ 58 (List._∷_ 58 (List._∷_ 70 (List._∷_
-      114 (List._∷_ 97 (List._∷_ 99 (List._∷_ 116 (List._∷_ 105 (List._∷_ 111 (List._∷_ 110 List.[])))))))))))))))))) (Syntax.tcons (Syntax.tyInt Syntax.w32) (Syntax.tcons
-      (Syntax.tyInt Syntax.w32) Syntax.tnil))) (Syntax.tcons (Syntax.tyInt Syntax.w32) (Syntax.tcons (Syntax.tyInt Syntax.w32) Syntax.tnil)))) Syntax.tnil) (Syntax.ttcons
-      (Syntax.tcons (Syntax.tyEnum (List._∷_ 114 (List._∷_ 101 (List._∷_ 102 (List._∷_ 117 (List._∷_ 115 (List._∷_ 97 (List._∷_ 108 (List._∷_ 58 (List._∷_ 58 (List._∷_ 82 (List._∷_
-      101 (List._∷_ 102 (List._∷_ 117 (List._∷_ 115 (List._∷_ 97 (List._∷_ 108 List.[])))))))))))))))) (Syntax.ttcons Syntax.tnil (Syntax.ttcons Syntax.tnil (Syntax.ttcons
-      Syntax.tnil (Syntax.ttcons Syntax.tnil (Syntax.ttcons Syntax.tnil (Syntax.ttcons Syntax.tnil (Syntax.ttcons Syntax.tnil (Syntax.ttcons Syntax.tnil (Syntax.ttcons Syntax.tnil
-      (Syntax.ttcons Syntax.tnil (Syntax.ttcons Syntax.tnil (Syntax.ttcons Syntax.tnil Syntax.ttnil))))))))))))) Syntax.tnil) Syntax.ttnil))),
-) (List._∷_ (
-  1,
-  Rows'.whole
-      (Declared'.row Stream.the-type),
-) (List._∷_ (2, Mut.mslice Of.R (Syntax.tyRef (Syntax.named 0) Syntax.mut Of.tyBy) 0) (List._∷_ (3, Rows'.sc-here (Row.sInt Syntax.w32))
-    (List._∷_ (4, Rows'.any-gone (Syntax.tyInt Syntax.w64)) (List._∷_ (5, Rows'.any-gone (Syntax.tyInt Syntax.w64)) (List._∷_ (
-      6,
-      Rows'.any-gone (Syntax.tyArray (Syntax.tyArray
-          (Syntax.tyInt Syntax.w32) 3) 256),
-    ) (List._∷_ (7, Rows'.any-gone (Syntax.tyArray (Syntax.tyArray (Syntax.tyInt Syntax.w32) 3) 4096)) (List._∷_ (
-      8,
-      Rows'.any-gone
-          Syntax.tyBool,
-    ) (List._∷_ (
-      9,
-      Rows'.any-gone (Syntax.tyEnum (List._∷_ 114 (List._∷_ 101 (List._∷_ 102 (List._∷_ 117 (List._∷_ 115 (List._∷_ 97 (List._∷_ 108 (List._∷_ 58
-          (List._∷_ 58 (List._∷_ 82 (List._∷_ 101 (List._∷_ 102 (List._∷_ 117 (List._∷_ 115 (List._∷_ 97 (List._∷_ 108 List.[])))))))))))))))) (Syntax.ttcons Syntax.tnil (Syntax.ttcons
-          Syntax.tnil (Syntax.ttcons Syntax.tnil (Syntax.ttcons Syntax.tnil (Syntax.ttcons Syntax.tnil (Syntax.ttcons Syntax.tnil (Syntax.ttcons Syntax.tnil (Syntax.ttcons Syntax.tnil
-          (Syntax.ttcons Syntax.tnil (Syntax.ttcons Syntax.tnil (Syntax.ttcons Syntax.tnil (Syntax.ttcons Syntax.tnil Syntax.ttnil))))))))))))),
-    ) (List._∷_ (
-      10,
-      Rows'.any-gone
-          (Syntax.tyArray (Syntax.tyInt Syntax.w32) 3),
-    ) (List._∷_ (11, Rows'.any-gone (Syntax.tyRef Syntax.erased Syntax.mut Of.tyBy)) (List._∷_ (
-      12,
-      Rows'.any-gone (Syntax.tyStruct
-          (List._∷_ 38 (List._∷_ 91 (List._∷_ 93 List.[]))) (Syntax.tcons (Syntax.tyRef Syntax.erased Syntax.mut Of.tyBy) (Syntax.tcons (Syntax.tyInt Syntax.w64) Syntax.tnil))),
-    )
-    (List._∷_ (13, Rows'.any-gone (Syntax.tyRef Syntax.erased Syntax.mut (Syntax.tyArray (Syntax.tyArray (Syntax.tyInt Syntax.w32) 3) 256))) (List._∷_ (
-      14,
-      Rows'.any-gone
-          (Syntax.tyStruct (List._∷_ 38 (List._∷_ 91 (List._∷_ 93 List.[]))) (Syntax.tcons (Syntax.tyRef Syntax.erased Syntax.mut (Syntax.tyArray (Syntax.tyInt Syntax.w32) 3))
-          (Syntax.tcons (Syntax.tyInt Syntax.w64) Syntax.tnil))),
-    ) (List._∷_ (15, Rows'.any-gone (Syntax.tyArray (Syntax.tyInt Syntax.w32) 3)) List.[])))))))))))))))
-
-abbrev pub t1 : List.List Row.Entry
-t1 = List._∷_ (16, Rows'.any-gone (Syntax.tyRef Syntax.erased Syntax.mut Of.tyBy)) (List._∷_ (
-  17,
-  Rows'.any-gone (Syntax.tyStruct (List._∷_ 38 (List._∷_ 91 (List._∷_ 93
-      List.[]))) (Syntax.tcons (Syntax.tyRef Syntax.erased Syntax.mut Of.tyBy) (Syntax.tcons (Syntax.tyInt Syntax.w64) Syntax.tnil))),
-) (List._∷_ (
-  18,
-  Rows'.any-gone (Syntax.tyRef
-      Syntax.erased Syntax.mut (Syntax.tyArray (Syntax.tyArray (Syntax.tyInt Syntax.w32) 3) 4096)),
-) (List._∷_ (
-  19,
-  Rows'.any-gone (Syntax.tyStruct (List._∷_ 38 (List._∷_ 91
-      (List._∷_ 93 List.[]))) (Syntax.tcons (Syntax.tyRef Syntax.erased Syntax.mut (Syntax.tyArray (Syntax.tyInt Syntax.w32) 3)) (Syntax.tcons (Syntax.tyInt Syntax.w64)
-      Syntax.tnil))),
-) List.[])))
-
-abbrev pub t2 : List.List Row.Entry
-t2 = List._∷_ (0, Rows'.whole (Declared.row Inserted.the-type)) (List._∷_ (
-  1,
-  Rows'.any-gone (Syntax.tyStruct (List._∷_ 103 (List._∷_ 114 (List._∷_ 101 (List._∷_ 101 (List._∷_ 110
-      (List._∷_ 119 (List._∷_ 97 (List._∷_ 108 (List._∷_ 100 (List._∷_ 95 (List._∷_ 107 (List._∷_ 104 (List._∷_ 97 (List._∷_ 110 (List._∷_ 110 (List._∷_ 97 (List._∷_ 58 (List._∷_ 58
-      (List._∷_ 83 (List._∷_ 116 (List._∷_ 114 (List._∷_ 101 (List._∷_ 97 (List._∷_ 109 List.[])))))))))))))))))))))))) (Syntax.tcons (Syntax.tyStruct (List._∷_ 102 (List._∷_ 114
-      (List._∷_ 97 (List._∷_ 99 (List._∷_ 116 (List._∷_ 105 (List._∷_ 111 (List._∷_ 110 (List._∷_ 58 (List._∷_ 58 (List._∷_ 70 (List._∷_ 114 (List._∷_ 97 (List._∷_ 99 (List._∷_ 116
-      (List._∷_ 105 (List._∷_ 111 (List._∷_ 110 List.[])))))))))))))))))) (Syntax.tcons (Syntax.tyInt Syntax.w32) (Syntax.tcons (Syntax.tyInt Syntax.w32) Syntax.tnil))) (Syntax.tcons
-      (Syntax.tyInt Syntax.w32) (Syntax.tcons (Syntax.tyInt Syntax.w32) Syntax.tnil)))),
-) (List._∷_ (2, Mut.mslice Of.R (Syntax.tyRef (Syntax.named 0) Syntax.mut Of.tyBy) 0)
-    (List._∷_ (3, Rows'.any-gone (Syntax.tyInt Syntax.w32)) (List._∷_ (4, Rows'.any-gone (Syntax.tyInt Syntax.w64)) (List._∷_ (5, Rows'.any-gone (Syntax.tyInt Syntax.w64))
+      (List._∷_ 97 (List._∷_ 95 (List._∷_ 115 (List._∷_ 116 (List._∷_ 101 (List._∷_ 112 (List._∷_ 115 (List._∷_ 58 (List._∷_ 58 (List._∷_ 83 (List._∷_ 116 (List._∷_ 114 (List._∷_ 101
+      (List._∷_ 97 (List._∷_ 109 List.[])))))))))))))))))))))))))))))) (Syntax.tcons (Syntax.tyStruct (List._∷_ 102 (List._∷_ 114 (List._∷_ 97 (List._∷_ 99 (List._∷_ 116 (List._∷_
+      105 (List._∷_ 111 (List._∷_ 110 (List._∷_ 58 (List._∷_ 58 (List._∷_ 70 (List._∷_ 114 (List._∷_ 97 (List._∷_ 99 (List._∷_ 116 (List._∷_ 105 (List._∷_ 111 (List._∷_ 110
+      List.[])))))))))))))))))) (Syntax.tcons (Syntax.tyInt Syntax.w32) (Syntax.tcons (Syntax.tyInt Syntax.w32) Syntax.tnil))) (Syntax.tcons (Syntax.tyInt Syntax.w32) (Syntax.tcons
+      (Syntax.tyInt Syntax.w32) Syntax.tnil)))) Syntax.tnil) (Syntax.ttcons (Syntax.tcons (Syntax.tyEnum (List._∷_ 114 (List._∷_ 101 (List._∷_ 102 (List._∷_ 117 (List._∷_ 115
+      (List._∷_ 97 (List._∷_ 108 (List._∷_ 58 (List._∷_ 58 (List._∷_ 82 (List._∷_ 101 (List._∷_ 102 (List._∷_ 117 (List._∷_ 115 (List._∷_ 97 (List._∷_ 108 List.[]))))))))))))))))
+      (Syntax.ttcons Syntax.tnil (Syntax.ttcons Syntax.tnil (Syntax.ttcons Syntax.tnil (Syntax.ttcons Syntax.tnil (Syntax.ttcons Syntax.tnil (Syntax.ttcons Syntax.tnil (Syntax.ttcons
+      Syntax.tnil (Syntax.ttcons Syntax.tnil (Syntax.ttcons Syntax.tnil (Syntax.ttcons Syntax.tnil (Syntax.ttcons Syntax.tnil (Syntax.ttcons Syntax.tnil Syntax.ttnil)))))))))))))
+      Syntax.tnil) Syntax.ttnil))),
+) (List._∷_ (1, Rows'.whole (Declared'.row Stream.the-type)) (List._∷_ (
+  2,
+  Mut.mslice Of.R (Syntax.tyRef (Syntax.named 0) Syntax.mut Of.tyBy) 0,
+) (List._∷_ (3, Rows'.sc-here (Row.sInt Syntax.w32)) (List._∷_ (4, Rows'.any-gone (Syntax.tyInt Syntax.w64)) (List._∷_ (5, Rows'.any-gone (Syntax.tyInt Syntax.w64))
     (List._∷_ (6, Rows'.any-gone (Syntax.tyArray (Syntax.tyArray (Syntax.tyInt Syntax.w32) 3) 256)) (List._∷_ (
       7,
       Rows'.any-gone (Syntax.tyArray (Syntax.tyArray (Syntax.tyInt
@@ -468,6 +411,64 @@ t2 = List._∷_ (0, Rows'.whole (Declared.row Inserted.the-type)) (List._∷_ (
           3),
     ) List.[])))))))))))))))
 
+abbrev pub t1 : List.List Row.Entry
+t1 = List._∷_ (16, Rows'.any-gone (Syntax.tyRef Syntax.erased Syntax.mut Of.tyBy)) (List._∷_ (
+  17,
+  Rows'.any-gone (Syntax.tyStruct (List._∷_ 38 (List._∷_ 91 (List._∷_ 93
+      List.[]))) (Syntax.tcons (Syntax.tyRef Syntax.erased Syntax.mut Of.tyBy) (Syntax.tcons (Syntax.tyInt Syntax.w64) Syntax.tnil))),
+) (List._∷_ (
+  18,
+  Rows'.any-gone (Syntax.tyRef
+      Syntax.erased Syntax.mut (Syntax.tyArray (Syntax.tyArray (Syntax.tyInt Syntax.w32) 3) 4096)),
+) (List._∷_ (
+  19,
+  Rows'.any-gone (Syntax.tyStruct (List._∷_ 38 (List._∷_ 91
+      (List._∷_ 93 List.[]))) (Syntax.tcons (Syntax.tyRef Syntax.erased Syntax.mut (Syntax.tyArray (Syntax.tyInt Syntax.w32) 3)) (Syntax.tcons (Syntax.tyInt Syntax.w64)
+      Syntax.tnil))),
+) List.[])))
+
+abbrev pub t2 : List.List Row.Entry
+t2 = List._∷_ (0, Rows'.whole (Declared.row Inserted.the-type)) (List._∷_ (
+  1,
+  Rows'.any-gone (Syntax.tyStruct (List._∷_ 103 (List._∷_ 114 (List._∷_ 101 (List._∷_ 101 (List._∷_ 110
+      (List._∷_ 119 (List._∷_ 97 (List._∷_ 108 (List._∷_ 100 (List._∷_ 95 (List._∷_ 107 (List._∷_ 104 (List._∷_ 97 (List._∷_ 110 (List._∷_ 110 (List._∷_ 97 (List._∷_ 95 (List._∷_ 115
+      (List._∷_ 116 (List._∷_ 101 (List._∷_ 112 (List._∷_ 115 (List._∷_ 58 (List._∷_ 58 (List._∷_ 83 (List._∷_ 116 (List._∷_ 114 (List._∷_ 101 (List._∷_ 97 (List._∷_ 109
+      List.[])))))))))))))))))))))))))))))) (Syntax.tcons (Syntax.tyStruct (List._∷_ 102 (List._∷_ 114 (List._∷_ 97 (List._∷_ 99 (List._∷_ 116 (List._∷_ 105 (List._∷_ 111 (List._∷_
+      110 (List._∷_ 58 (List._∷_ 58 (List._∷_ 70 (List._∷_ 114 (List._∷_ 97 (List._∷_ 99 (List._∷_ 116 (List._∷_ 105 (List._∷_ 111 (List._∷_ 110 List.[]))))))))))))))))))
+      (Syntax.tcons (Syntax.tyInt Syntax.w32) (Syntax.tcons (Syntax.tyInt Syntax.w32) Syntax.tnil))) (Syntax.tcons (Syntax.tyInt Syntax.w32) (Syntax.tcons (Syntax.tyInt Syntax.w32)
+      Syntax.tnil)))),
+) (List._∷_ (2, Mut.mslice Of.R (Syntax.tyRef (Syntax.named 0) Syntax.mut Of.tyBy) 0) (List._∷_ (3, Rows'.any-gone (Syntax.tyInt Syntax.w32)) (List._∷_ (
+  4,
+  Rows'.any-gone (Syntax.tyInt Syntax.w64),
+) (List._∷_ (5, Rows'.any-gone (Syntax.tyInt Syntax.w64)) (List._∷_ (
+  6,
+  Rows'.any-gone (Syntax.tyArray (Syntax.tyArray (Syntax.tyInt
+      Syntax.w32) 3) 256),
+) (List._∷_ (7, Rows'.any-gone (Syntax.tyArray (Syntax.tyArray (Syntax.tyInt Syntax.w32) 3) 4096)) (List._∷_ (8, Rows'.any-gone Syntax.tyBool) (List._∷_ (
+  9,
+  Rows'.any-gone (Syntax.tyEnum (List._∷_ 114 (List._∷_ 101 (List._∷_ 102 (List._∷_ 117 (List._∷_ 115 (List._∷_ 97 (List._∷_ 108 (List._∷_ 58 (List._∷_ 58 (List._∷_ 82
+      (List._∷_ 101 (List._∷_ 102 (List._∷_ 117 (List._∷_ 115 (List._∷_ 97 (List._∷_ 108 List.[])))))))))))))))) (Syntax.ttcons Syntax.tnil (Syntax.ttcons Syntax.tnil (Syntax.ttcons
+      Syntax.tnil (Syntax.ttcons Syntax.tnil (Syntax.ttcons Syntax.tnil (Syntax.ttcons Syntax.tnil (Syntax.ttcons Syntax.tnil (Syntax.ttcons Syntax.tnil (Syntax.ttcons Syntax.tnil
+      (Syntax.ttcons Syntax.tnil (Syntax.ttcons Syntax.tnil (Syntax.ttcons Syntax.tnil Syntax.ttnil))))))))))))),
+) (List._∷_ (
+  10,
+  Rows'.any-gone (Syntax.tyArray (Syntax.tyInt
+      Syntax.w32) 3),
+) (List._∷_ (11, Rows'.any-gone (Syntax.tyRef Syntax.erased Syntax.mut Of.tyBy)) (List._∷_ (
+  12,
+  Rows'.any-gone (Syntax.tyStruct (List._∷_ 38 (List._∷_ 91
+      (List._∷_ 93 List.[]))) (Syntax.tcons (Syntax.tyRef Syntax.erased Syntax.mut Of.tyBy) (Syntax.tcons (Syntax.tyInt Syntax.w64) Syntax.tnil))),
+) (List._∷_ (
+  13,
+  Rows'.any-gone
+      (Syntax.tyRef Syntax.erased Syntax.mut (Syntax.tyArray (Syntax.tyArray (Syntax.tyInt Syntax.w32) 3) 256)),
+) (List._∷_ (
+  14,
+  Rows'.any-gone (Syntax.tyStruct (List._∷_ 38
+      (List._∷_ 91 (List._∷_ 93 List.[]))) (Syntax.tcons (Syntax.tyRef Syntax.erased Syntax.mut (Syntax.tyArray (Syntax.tyInt Syntax.w32) 3)) (Syntax.tcons (Syntax.tyInt Syntax.w64)
+      Syntax.tnil))),
+) (List._∷_ (15, Rows'.any-gone (Syntax.tyArray (Syntax.tyInt Syntax.w32) 3)) List.[])))))))))))))))
+
 abbrev pub t3 : List.List Row.Entry
 t3 = List._∷_ (
   0,
@@ -475,48 +476,43 @@ t3 = List._∷_ (
       (List._∷_ 95 (List._∷_ 107 (List._∷_ 104 (List._∷_ 97 (List._∷_ 110 (List._∷_ 110 (List._∷_ 97 (List._∷_ 58 (List._∷_ 58 (List._∷_ 73 (List._∷_ 110 (List._∷_ 115 (List._∷_ 101
       (List._∷_ 114 (List._∷_ 116 (List._∷_ 101 (List._∷_ 100 List.[])))))))))))))))))))))))))) (Syntax.ttcons (Syntax.tcons (Syntax.tyStruct (List._∷_ 103 (List._∷_ 114 (List._∷_
       101 (List._∷_ 101 (List._∷_ 110 (List._∷_ 119 (List._∷_ 97 (List._∷_ 108 (List._∷_ 100 (List._∷_ 95 (List._∷_ 107 (List._∷_ 104 (List._∷_ 97 (List._∷_ 110 (List._∷_ 110
-      (List._∷_ 97 (List._∷_ 58 (List._∷_ 58 (List._∷_ 83 (List._∷_ 116 (List._∷_ 114 (List._∷_ 101 (List._∷_ 97 (List._∷_ 109 List.[])))))))))))))))))))))))) (Syntax.tcons
-      (Syntax.tyStruct (List._∷_ 102 (List._∷_ 114 (List._∷_ 97 (List._∷_ 99 (List._∷_ 116 (List._∷_ 105 (List._∷_ 111 (List._∷_ 110 (List._∷_ 58 (List._∷_ 58 (List._∷_ 70 (List._∷_
-      114 (List._∷_ 97 (List._∷_ 99 (List._∷_ 116 (List._∷_ 105 (List._∷_ 111 (List._∷_ 110 List.[])))))))))))))))))) (Syntax.tcons (Syntax.tyInt Syntax.w32) (Syntax.tcons
-      (Syntax.tyInt Syntax.w32) Syntax.tnil))) (Syntax.tcons (Syntax.tyInt Syntax.w32) (Syntax.tcons (Syntax.tyInt Syntax.w32) Syntax.tnil)))) Syntax.tnil) (Syntax.ttcons
-      (Syntax.tcons (Syntax.tyEnum (List._∷_ 114 (List._∷_ 101 (List._∷_ 102 (List._∷_ 117 (List._∷_ 115 (List._∷_ 97 (List._∷_ 108 (List._∷_ 58 (List._∷_ 58 (List._∷_ 82 (List._∷_
-      101 (List._∷_ 102 (List._∷_ 117 (List._∷_ 115 (List._∷_ 97 (List._∷_ 108 List.[])))))))))))))))) (Syntax.ttcons Syntax.tnil (Syntax.ttcons Syntax.tnil (Syntax.ttcons
-      Syntax.tnil (Syntax.ttcons Syntax.tnil (Syntax.ttcons Syntax.tnil (Syntax.ttcons Syntax.tnil (Syntax.ttcons Syntax.tnil (Syntax.ttcons Syntax.tnil (Syntax.ttcons Syntax.tnil
-      (Syntax.ttcons Syntax.tnil (Syntax.ttcons Syntax.tnil (Syntax.ttcons Syntax.tnil Syntax.ttnil))))))))))))) Syntax.tnil) Syntax.ttnil))),
+      (List._∷_ 97 (List._∷_ 95 (List._∷_ 115 (List._∷_ 116 (List._∷_ 101 (List._∷_ 112 (List._∷_ 115 (List._∷_ 58 (List._∷_ 58 (List._∷_ 83 (List._∷_ 116 (List._∷_ 114 (List._∷_ 101
+      (List._∷_ 97 (List._∷_ 109 List.[])))))))))))))))))))))))))))))) (Syntax.tcons (Syntax.tyStruct (List._∷_ 102 (List._∷_ 114 (List._∷_ 97 (List._∷_ 99 (List._∷_ 116 (List._∷_
+      105 (List._∷_ 111 (List._∷_ 110 (List._∷_ 58 (List._∷_ 58 (List._∷_ 70 (List._∷_ 114 (List._∷_ 97 (List._∷_ 99 (List._∷_ 116 (List._∷_ 105 (List._∷_ 111 (List._∷_ 110
+      List.[])))))))))))))))))) (Syntax.tcons (Syntax.tyInt Syntax.w32) (Syntax.tcons (Syntax.tyInt Syntax.w32) Syntax.tnil))) (Syntax.tcons (Syntax.tyInt Syntax.w32) (Syntax.tcons
+      (Syntax.tyInt Syntax.w32) Syntax.tnil)))) Syntax.tnil) (Syntax.ttcons (Syntax.tcons (Syntax.tyEnum (List._∷_ 114 (List._∷_ 101 (List._∷_ 102 (List._∷_ 117 (List._∷_ 115
+      (List._∷_ 97 (List._∷_ 108 (List._∷_ 58 (List._∷_ 58 (List._∷_ 82 (List._∷_ 101 (List._∷_ 102 (List._∷_ 117 (List._∷_ 115 (List._∷_ 97 (List._∷_ 108 List.[]))))))))))))))))
+      (Syntax.ttcons Syntax.tnil (Syntax.ttcons Syntax.tnil (Syntax.ttcons Syntax.tnil (Syntax.ttcons Syntax.tnil (Syntax.ttcons Syntax.tnil (Syntax.ttcons Syntax.tnil (Syntax.ttcons
+      Syntax.tnil (Syntax.ttcons Syntax.tnil (Syntax.ttcons Syntax.tnil (Syntax.ttcons Syntax.tnil (Syntax.ttcons Syntax.tnil (Syntax.ttcons Syntax.tnil Syntax.ttnil)))))))))))))
+      Syntax.tnil) Syntax.ttnil))),
+) (List._∷_ (1, Rows'.whole (Declared'.row Stream.the-type)) (List._∷_ (
+  2,
+  Mut.mslice Of.R (Syntax.tyRef (Syntax.named 0) Syntax.mut Of.tyBy) 0,
+) (List._∷_ (3, Rows'.sc-here (Row.sInt Syntax.w32)) (List._∷_ (4, Rows'.sc-here (Row.sInt Syntax.w64)) (List._∷_ (5, Rows'.any-gone (Syntax.tyInt Syntax.w64)) (List._∷_ (
+  6,
+  Rows'.any-gone (Syntax.tyArray (Syntax.tyArray (Syntax.tyInt Syntax.w32) 3) 256),
 ) (List._∷_ (
-  1,
-  Rows'.whole
-      (Declared'.row Stream.the-type),
-) (List._∷_ (2, Mut.mslice Of.R (Syntax.tyRef (Syntax.named 0) Syntax.mut Of.tyBy) 0) (List._∷_ (3, Rows'.sc-here (Row.sInt Syntax.w32))
-    (List._∷_ (4, Rows'.sc-here (Row.sInt Syntax.w64)) (List._∷_ (5, Rows'.any-gone (Syntax.tyInt Syntax.w64)) (List._∷_ (
-      6,
-      Rows'.any-gone (Syntax.tyArray (Syntax.tyArray
-          (Syntax.tyInt Syntax.w32) 3) 256),
-    ) (List._∷_ (7, Rows'.any-gone (Syntax.tyArray (Syntax.tyArray (Syntax.tyInt Syntax.w32) 3) 4096)) (List._∷_ (
-      8,
-      Rows'.any-gone
-          Syntax.tyBool,
-    ) (List._∷_ (
-      9,
-      Rows'.any-gone (Syntax.tyEnum (List._∷_ 114 (List._∷_ 101 (List._∷_ 102 (List._∷_ 117 (List._∷_ 115 (List._∷_ 97 (List._∷_ 108 (List._∷_ 58
-          (List._∷_ 58 (List._∷_ 82 (List._∷_ 101 (List._∷_ 102 (List._∷_ 117 (List._∷_ 115 (List._∷_ 97 (List._∷_ 108 List.[])))))))))))))))) (Syntax.ttcons Syntax.tnil (Syntax.ttcons
-          Syntax.tnil (Syntax.ttcons Syntax.tnil (Syntax.ttcons Syntax.tnil (Syntax.ttcons Syntax.tnil (Syntax.ttcons Syntax.tnil (Syntax.ttcons Syntax.tnil (Syntax.ttcons Syntax.tnil
-          (Syntax.ttcons Syntax.tnil (Syntax.ttcons Syntax.tnil (Syntax.ttcons Syntax.tnil (Syntax.ttcons Syntax.tnil Syntax.ttnil))))))))))))),
-    ) (List._∷_ (
-      10,
-      Rows'.any-gone
-          (Syntax.tyArray (Syntax.tyInt Syntax.w32) 3),
-    ) (List._∷_ (11, Rows'.any-gone (Syntax.tyRef Syntax.erased Syntax.mut Of.tyBy)) (List._∷_ (
+  7,
+  Rows'.any-gone (Syntax.tyArray (Syntax.tyArray (Syntax.tyInt Syntax.w32)
+      3) 4096),
+) (List._∷_ (8, Rows'.any-gone Syntax.tyBool) (List._∷_ (
+  9,
+  Rows'.any-gone (Syntax.tyEnum (List._∷_ 114 (List._∷_ 101 (List._∷_ 102 (List._∷_ 117 (List._∷_ 115
+      (List._∷_ 97 (List._∷_ 108 (List._∷_ 58 (List._∷_ 58 (List._∷_ 82 (List._∷_ 101 (List._∷_ 102 (List._∷_ 117 (List._∷_ 115 (List._∷_ 97 (List._∷_ 108 List.[]))))))))))))))))
+      (Syntax.ttcons Syntax.tnil (Syntax.ttcons Syntax.tnil (Syntax.ttcons Syntax.tnil (Syntax.ttcons Syntax.tnil (Syntax.ttcons Syntax.tnil (Syntax.ttcons Syntax.tnil (Syntax.ttcons
+      Syntax.tnil (Syntax.ttcons Syntax.tnil (Syntax.ttcons Syntax.tnil (Syntax.ttcons Syntax.tnil (Syntax.ttcons Syntax.tnil (Syntax.ttcons Syntax.tnil Syntax.ttnil))))))))))))),
+)
+    (List._∷_ (10, Rows'.any-gone (Syntax.tyArray (Syntax.tyInt Syntax.w32) 3)) (List._∷_ (11, Rows'.any-gone (Syntax.tyRef Syntax.erased Syntax.mut Of.tyBy)) (List._∷_ (
       12,
-      Rows'.any-gone (Syntax.tyStruct
-          (List._∷_ 38 (List._∷_ 91 (List._∷_ 93 List.[]))) (Syntax.tcons (Syntax.tyRef Syntax.erased Syntax.mut Of.tyBy) (Syntax.tcons (Syntax.tyInt Syntax.w64) Syntax.tnil))),
-    )
-    (List._∷_ (13, Rows'.any-gone (Syntax.tyRef Syntax.erased Syntax.mut (Syntax.tyArray (Syntax.tyArray (Syntax.tyInt Syntax.w32) 3) 256))) (List._∷_ (
+      Rows'.any-gone (Syntax.tyStruct (List._∷_ 38 (List._∷_ 91 (List._∷_ 93 List.[]))) (Syntax.tcons (Syntax.tyRef Syntax.erased Syntax.mut Of.tyBy) (Syntax.tcons (Syntax.tyInt
+          Syntax.w64) Syntax.tnil))),
+    ) (List._∷_ (13, Rows'.any-gone (Syntax.tyRef Syntax.erased Syntax.mut (Syntax.tyArray (Syntax.tyArray (Syntax.tyInt Syntax.w32) 3) 256)))
+    (List._∷_ (
       14,
-      Rows'.any-gone
-          (Syntax.tyStruct (List._∷_ 38 (List._∷_ 91 (List._∷_ 93 List.[]))) (Syntax.tcons (Syntax.tyRef Syntax.erased Syntax.mut (Syntax.tyArray (Syntax.tyInt Syntax.w32) 3))
-          (Syntax.tcons (Syntax.tyInt Syntax.w64) Syntax.tnil))),
-    ) (List._∷_ (15, Rows'.any-gone (Syntax.tyArray (Syntax.tyInt Syntax.w32) 3)) List.[])))))))))))))))
+      Rows'.any-gone (Syntax.tyStruct (List._∷_ 38 (List._∷_ 91 (List._∷_ 93 List.[]))) (Syntax.tcons (Syntax.tyRef Syntax.erased Syntax.mut (Syntax.tyArray
+          (Syntax.tyInt Syntax.w32) 3)) (Syntax.tcons (Syntax.tyInt Syntax.w64) Syntax.tnil))),
+    ) (List._∷_ (15, Rows'.any-gone (Syntax.tyArray (Syntax.tyInt Syntax.w32) 3))
+    List.[])))))))))))))))
 
 abbrev pub t4 : List.List Row.Entry
 t4 = List._∷_ (
@@ -525,47 +521,43 @@ t4 = List._∷_ (
       (List._∷_ 95 (List._∷_ 107 (List._∷_ 104 (List._∷_ 97 (List._∷_ 110 (List._∷_ 110 (List._∷_ 97 (List._∷_ 58 (List._∷_ 58 (List._∷_ 73 (List._∷_ 110 (List._∷_ 115 (List._∷_ 101
       (List._∷_ 114 (List._∷_ 116 (List._∷_ 101 (List._∷_ 100 List.[])))))))))))))))))))))))))) (Syntax.ttcons (Syntax.tcons (Syntax.tyStruct (List._∷_ 103 (List._∷_ 114 (List._∷_
       101 (List._∷_ 101 (List._∷_ 110 (List._∷_ 119 (List._∷_ 97 (List._∷_ 108 (List._∷_ 100 (List._∷_ 95 (List._∷_ 107 (List._∷_ 104 (List._∷_ 97 (List._∷_ 110 (List._∷_ 110
-      (List._∷_ 97 (List._∷_ 58 (List._∷_ 58 (List._∷_ 83 (List._∷_ 116 (List._∷_ 114 (List._∷_ 101 (List._∷_ 97 (List._∷_ 109 List.[])))))))))))))))))))))))) (Syntax.tcons
-      (Syntax.tyStruct (List._∷_ 102 (List._∷_ 114 (List._∷_ 97 (List._∷_ 99 (List._∷_ 116 (List._∷_ 105 (List._∷_ 111 (List._∷_ 110 (List._∷_ 58 (List._∷_ 58 (List._∷_ 70 (List._∷_
-      114 (List._∷_ 97 (List._∷_ 99 (List._∷_ 116 (List._∷_ 105 (List._∷_ 111 (List._∷_ 110 List.[])))))))))))))))))) (Syntax.tcons (Syntax.tyInt Syntax.w32) (Syntax.tcons
-      (Syntax.tyInt Syntax.w32) Syntax.tnil))) (Syntax.tcons (Syntax.tyInt Syntax.w32) (Syntax.tcons (Syntax.tyInt Syntax.w32) Syntax.tnil)))) Syntax.tnil) (Syntax.ttcons
-      (Syntax.tcons (Syntax.tyEnum (List._∷_ 114 (List._∷_ 101 (List._∷_ 102 (List._∷_ 117 (List._∷_ 115 (List._∷_ 97 (List._∷_ 108 (List._∷_ 58 (List._∷_ 58 (List._∷_ 82 (List._∷_
-      101 (List._∷_ 102 (List._∷_ 117 (List._∷_ 115 (List._∷_ 97 (List._∷_ 108 List.[])))))))))))))))) (Syntax.ttcons Syntax.tnil (Syntax.ttcons Syntax.tnil (Syntax.ttcons
-      Syntax.tnil (Syntax.ttcons Syntax.tnil (Syntax.ttcons Syntax.tnil (Syntax.ttcons Syntax.tnil (Syntax.ttcons Syntax.tnil (Syntax.ttcons Syntax.tnil (Syntax.ttcons Syntax.tnil
-      (Syntax.ttcons Syntax.tnil (Syntax.ttcons Syntax.tnil (Syntax.ttcons Syntax.tnil Syntax.ttnil))))))))))))) Syntax.tnil) Syntax.ttnil))),
+      (List._∷_ 97 (List._∷_ 95 (List._∷_ 115 (List._∷_ 116 (List._∷_ 101 (List._∷_ 112 (List._∷_ 115 (List._∷_ 58 (List._∷_ 58 (List._∷_ 83 (List._∷_ 116 (List._∷_ 114 (List._∷_ 101
+      (List._∷_ 97 (List._∷_ 109 List.[])))))))))))))))))))))))))))))) (Syntax.tcons (Syntax.tyStruct (List._∷_ 102 (List._∷_ 114 (List._∷_ 97 (List._∷_ 99 (List._∷_ 116 (List._∷_
+      105 (List._∷_ 111 (List._∷_ 110 (List._∷_ 58 (List._∷_ 58 (List._∷_ 70 (List._∷_ 114 (List._∷_ 97 (List._∷_ 99 (List._∷_ 116 (List._∷_ 105 (List._∷_ 111 (List._∷_ 110
+      List.[])))))))))))))))))) (Syntax.tcons (Syntax.tyInt Syntax.w32) (Syntax.tcons (Syntax.tyInt Syntax.w32) Syntax.tnil))) (Syntax.tcons (Syntax.tyInt Syntax.w32) (Syntax.tcons
+      (Syntax.tyInt Syntax.w32) Syntax.tnil)))) Syntax.tnil) (Syntax.ttcons (Syntax.tcons (Syntax.tyEnum (List._∷_ 114 (List._∷_ 101 (List._∷_ 102 (List._∷_ 117 (List._∷_ 115
+      (List._∷_ 97 (List._∷_ 108 (List._∷_ 58 (List._∷_ 58 (List._∷_ 82 (List._∷_ 101 (List._∷_ 102 (List._∷_ 117 (List._∷_ 115 (List._∷_ 97 (List._∷_ 108 List.[]))))))))))))))))
+      (Syntax.ttcons Syntax.tnil (Syntax.ttcons Syntax.tnil (Syntax.ttcons Syntax.tnil (Syntax.ttcons Syntax.tnil (Syntax.ttcons Syntax.tnil (Syntax.ttcons Syntax.tnil (Syntax.ttcons
+      Syntax.tnil (Syntax.ttcons Syntax.tnil (Syntax.ttcons Syntax.tnil (Syntax.ttcons Syntax.tnil (Syntax.ttcons Syntax.tnil (Syntax.ttcons Syntax.tnil Syntax.ttnil)))))))))))))
+      Syntax.tnil) Syntax.ttnil))),
+) (List._∷_ (1, Rows'.whole (Declared'.row Stream.the-type)) (List._∷_ (
+  2,
+  Mut.mslice Of.R (Syntax.tyRef (Syntax.named 0) Syntax.mut Of.tyBy) 0,
+) (List._∷_ (3, Rows'.sc-here (Row.sInt Syntax.w32)) (List._∷_ (4, Rows'.sc-here (Row.sInt Syntax.w64)) (List._∷_ (5, Rows'.any-gone (Syntax.tyInt Syntax.w64)) (List._∷_ (
+  6,
+  Rows'.any-gone (Syntax.tyArray (Syntax.tyArray (Syntax.tyInt Syntax.w32) 3) 256),
 ) (List._∷_ (
-  1,
-  Rows'.whole
-      (Declared'.row Stream.the-type),
-) (List._∷_ (2, Mut.mslice Of.R (Syntax.tyRef (Syntax.named 0) Syntax.mut Of.tyBy) 0) (List._∷_ (3, Rows'.sc-here (Row.sInt Syntax.w32))
-    (List._∷_ (4, Rows'.sc-here (Row.sInt Syntax.w64)) (List._∷_ (5, Rows'.any-gone (Syntax.tyInt Syntax.w64)) (List._∷_ (
-      6,
-      Rows'.any-gone (Syntax.tyArray (Syntax.tyArray
-          (Syntax.tyInt Syntax.w32) 3) 256),
-    ) (List._∷_ (7, Rows'.any-gone (Syntax.tyArray (Syntax.tyArray (Syntax.tyInt Syntax.w32) 3) 4096)) (List._∷_ (8, Rows'.sc-here Row.sBool)
-    (List._∷_ (
-      9,
-      Rows'.any-gone (Syntax.tyEnum (List._∷_ 114 (List._∷_ 101 (List._∷_ 102 (List._∷_ 117 (List._∷_ 115 (List._∷_ 97 (List._∷_ 108 (List._∷_ 58 (List._∷_ 58
-          (List._∷_ 82 (List._∷_ 101 (List._∷_ 102 (List._∷_ 117 (List._∷_ 115 (List._∷_ 97 (List._∷_ 108 List.[])))))))))))))))) (Syntax.ttcons Syntax.tnil (Syntax.ttcons Syntax.tnil
-          (Syntax.ttcons Syntax.tnil (Syntax.ttcons Syntax.tnil (Syntax.ttcons Syntax.tnil (Syntax.ttcons Syntax.tnil (Syntax.ttcons Syntax.tnil (Syntax.ttcons Syntax.tnil (Syntax.ttcons
-          Syntax.tnil (Syntax.ttcons Syntax.tnil (Syntax.ttcons Syntax.tnil (Syntax.ttcons Syntax.tnil Syntax.ttnil))))))))))))),
-    ) (List._∷_ (
-      10,
-      Rows'.any-gone (Syntax.tyArray
-          (Syntax.tyInt Syntax.w32) 3),
-    ) (List._∷_ (11, Rows'.any-gone (Syntax.tyRef Syntax.erased Syntax.mut Of.tyBy)) (List._∷_ (
+  7,
+  Rows'.any-gone (Syntax.tyArray (Syntax.tyArray (Syntax.tyInt Syntax.w32)
+      3) 4096),
+) (List._∷_ (8, Rows'.sc-here Row.sBool) (List._∷_ (
+  9,
+  Rows'.any-gone (Syntax.tyEnum (List._∷_ 114 (List._∷_ 101 (List._∷_ 102 (List._∷_ 117 (List._∷_ 115 (List._∷_
+      97 (List._∷_ 108 (List._∷_ 58 (List._∷_ 58 (List._∷_ 82 (List._∷_ 101 (List._∷_ 102 (List._∷_ 117 (List._∷_ 115 (List._∷_ 97 (List._∷_ 108 List.[]))))))))))))))))
+      (Syntax.ttcons Syntax.tnil (Syntax.ttcons Syntax.tnil (Syntax.ttcons Syntax.tnil (Syntax.ttcons Syntax.tnil (Syntax.ttcons Syntax.tnil (Syntax.ttcons Syntax.tnil (Syntax.ttcons
+      Syntax.tnil (Syntax.ttcons Syntax.tnil (Syntax.ttcons Syntax.tnil (Syntax.ttcons Syntax.tnil (Syntax.ttcons Syntax.tnil (Syntax.ttcons Syntax.tnil Syntax.ttnil))))))))))))),
+)
+    (List._∷_ (10, Rows'.any-gone (Syntax.tyArray (Syntax.tyInt Syntax.w32) 3)) (List._∷_ (11, Rows'.any-gone (Syntax.tyRef Syntax.erased Syntax.mut Of.tyBy)) (List._∷_ (
       12,
-      Rows'.any-gone (Syntax.tyStruct (List._∷_ 38
-          (List._∷_ 91 (List._∷_ 93 List.[]))) (Syntax.tcons (Syntax.tyRef Syntax.erased Syntax.mut Of.tyBy) (Syntax.tcons (Syntax.tyInt Syntax.w64) Syntax.tnil))),
-    ) (List._∷_ (
-      13,
-      Rows'.any-gone (Syntax.tyRef Syntax.erased Syntax.mut (Syntax.tyArray (Syntax.tyArray (Syntax.tyInt Syntax.w32) 3) 256)),
-    ) (List._∷_ (
-      14,
-      Rows'.any-gone (Syntax.tyStruct
-          (List._∷_ 38 (List._∷_ 91 (List._∷_ 93 List.[]))) (Syntax.tcons (Syntax.tyRef Syntax.erased Syntax.mut (Syntax.tyArray (Syntax.tyInt Syntax.w32) 3)) (Syntax.tcons (Syntax.tyInt
+      Rows'.any-gone (Syntax.tyStruct (List._∷_ 38 (List._∷_ 91 (List._∷_ 93 List.[]))) (Syntax.tcons (Syntax.tyRef Syntax.erased Syntax.mut Of.tyBy) (Syntax.tcons (Syntax.tyInt
           Syntax.w64) Syntax.tnil))),
-    ) (List._∷_ (15, Rows'.any-gone (Syntax.tyArray (Syntax.tyInt Syntax.w32) 3)) List.[])))))))))))))))
+    ) (List._∷_ (13, Rows'.any-gone (Syntax.tyRef Syntax.erased Syntax.mut (Syntax.tyArray (Syntax.tyArray (Syntax.tyInt Syntax.w32) 3) 256)))
+    (List._∷_ (
+      14,
+      Rows'.any-gone (Syntax.tyStruct (List._∷_ 38 (List._∷_ 91 (List._∷_ 93 List.[]))) (Syntax.tcons (Syntax.tyRef Syntax.erased Syntax.mut (Syntax.tyArray
+          (Syntax.tyInt Syntax.w32) 3)) (Syntax.tcons (Syntax.tyInt Syntax.w64) Syntax.tnil))),
+    ) (List._∷_ (15, Rows'.any-gone (Syntax.tyArray (Syntax.tyInt Syntax.w32) 3))
+    List.[])))))))))))))))
 
 abbrev pub t5 : List.List Row.Entry
 t5 = List._∷_ (
@@ -574,22 +566,23 @@ t5 = List._∷_ (
       (List._∷_ 95 (List._∷_ 107 (List._∷_ 104 (List._∷_ 97 (List._∷_ 110 (List._∷_ 110 (List._∷_ 97 (List._∷_ 58 (List._∷_ 58 (List._∷_ 73 (List._∷_ 110 (List._∷_ 115 (List._∷_ 101
       (List._∷_ 114 (List._∷_ 116 (List._∷_ 101 (List._∷_ 100 List.[])))))))))))))))))))))))))) (Syntax.ttcons (Syntax.tcons (Syntax.tyStruct (List._∷_ 103 (List._∷_ 114 (List._∷_
       101 (List._∷_ 101 (List._∷_ 110 (List._∷_ 119 (List._∷_ 97 (List._∷_ 108 (List._∷_ 100 (List._∷_ 95 (List._∷_ 107 (List._∷_ 104 (List._∷_ 97 (List._∷_ 110 (List._∷_ 110
-      (List._∷_ 97 (List._∷_ 58 (List._∷_ 58 (List._∷_ 83 (List._∷_ 116 (List._∷_ 114 (List._∷_ 101 (List._∷_ 97 (List._∷_ 109 List.[])))))))))))))))))))))))) (Syntax.tcons
-      (Syntax.tyStruct (List._∷_ 102 (List._∷_ 114 (List._∷_ 97 (List._∷_ 99 (List._∷_ 116 (List._∷_ 105 (List._∷_ 111 (List._∷_ 110 (List._∷_ 58 (List._∷_ 58 (List._∷_ 70 (List._∷_
-      114 (List._∷_ 97 (List._∷_ 99 (List._∷_ 116 (List._∷_ 105 (List._∷_ 111 (List._∷_ 110 List.[])))))))))))))))))) (Syntax.tcons (Syntax.tyInt Syntax.w32) (Syntax.tcons
-      (Syntax.tyInt Syntax.w32) Syntax.tnil))) (Syntax.tcons (Syntax.tyInt Syntax.w32) (Syntax.tcons (Syntax.tyInt Syntax.w32) Syntax.tnil)))) Syntax.tnil) (Syntax.ttcons
-      (Syntax.tcons (Syntax.tyEnum (List._∷_ 114 (List._∷_ 101 (List._∷_ 102 (List._∷_ 117 (List._∷_ 115 (List._∷_ 97 (List._∷_ 108 (List._∷_ 58 (List._∷_ 58 (List._∷_ 82 (List._∷_
-      101 (List._∷_ 102 (List._∷_ 117 (List._∷_ 115 (List._∷_ 97 (List._∷_ 108 List.[])))))))))))))))) (Syntax.ttcons Syntax.tnil (Syntax.ttcons Syntax.tnil (Syntax.ttcons
-      Syntax.tnil (Syntax.ttcons Syntax.tnil (Syntax.ttcons Syntax.tnil (Syntax.ttcons Syntax.tnil (Syntax.ttcons Syntax.tnil (Syntax.ttcons Syntax.tnil (Syntax.ttcons Syntax.tnil
-      (Syntax.ttcons Syntax.tnil (Syntax.ttcons Syntax.tnil (Syntax.ttcons Syntax.tnil Syntax.ttnil))))))))))))) Syntax.tnil) Syntax.ttnil))),
+      (List._∷_ 97 (List._∷_ 95 (List._∷_ 115 (List._∷_ 116 (List._∷_ 101 (List._∷_ 112 (List._∷_ 115 (List._∷_ 58 (List._∷_ 58 (List._∷_ 83 (List._∷_ 116 (List._∷_ 114 (List._∷_ 101
+      (List._∷_ 97 (List._∷_ 109 List.[])))))))))))))))))))))))))))))) (Syntax.tcons (Syntax.tyStruct (List._∷_ 102 (List._∷_ 114 (List._∷_ 97 (List._∷_ 99 (List._∷_ 116 (List._∷_
+      105 (List._∷_ 111 (List._∷_ 110 (List._∷_ 58 (List._∷_ 58 (List._∷_ 70 (List._∷_ 114 (List._∷_ 97 (List._∷_ 99 (List._∷_ 116 (List._∷_ 105 (List._∷_ 111 (List._∷_ 110
+      List.[])))))))))))))))))) (Syntax.tcons (Syntax.tyInt Syntax.w32) (Syntax.tcons (Syntax.tyInt Syntax.w32) Syntax.tnil))) (Syntax.tcons (Syntax.tyInt Syntax.w32) (Syntax.tcons
+      (Syntax.tyInt Syntax.w32) Syntax.tnil)))) Syntax.tnil) (Syntax.ttcons (Syntax.tcons (Syntax.tyEnum (List._∷_ 114 (List._∷_ 101 (List._∷_ 102 (List._∷_ 117 (List._∷_ 115
+      (List._∷_ 97 (List._∷_ 108 (List._∷_ 58 (List._∷_ 58 (List._∷_ 82 (List._∷_ 101 (List._∷_ 102 (List._∷_ 117 (List._∷_ 115 (List._∷_ 97 (List._∷_ 108 List.[]))))))))))))))))
+      (Syntax.ttcons Syntax.tnil (Syntax.ttcons Syntax.tnil (Syntax.ttcons Syntax.tnil (Syntax.ttcons Syntax.tnil (Syntax.ttcons Syntax.tnil (Syntax.ttcons Syntax.tnil (Syntax.ttcons
+      Syntax.tnil (Syntax.ttcons Syntax.tnil (Syntax.ttcons Syntax.tnil (Syntax.ttcons Syntax.tnil (Syntax.ttcons Syntax.tnil (Syntax.ttcons Syntax.tnil Syntax.ttnil)))))))))))))
+      Syntax.tnil) Syntax.ttnil))),
 ) (List._∷_ (
   1,
-  Rows'.any-gone
-      (Syntax.tyStruct (List._∷_ 103 (List._∷_ 114 (List._∷_ 101 (List._∷_ 101 (List._∷_ 110 (List._∷_ 119 (List._∷_ 97 (List._∷_ 108 (List._∷_ 100 (List._∷_ 95 (List._∷_ 107
-      (List._∷_ 104 (List._∷_ 97 (List._∷_ 110 (List._∷_ 110 (List._∷_ 97 (List._∷_ 58 (List._∷_ 58 (List._∷_ 83 (List._∷_ 116 (List._∷_ 114 (List._∷_ 101 (List._∷_ 97 (List._∷_ 109
-      List.[])))))))))))))))))))))))) (Syntax.tcons (Syntax.tyStruct (List._∷_ 102 (List._∷_ 114 (List._∷_ 97 (List._∷_ 99 (List._∷_ 116 (List._∷_ 105 (List._∷_ 111 (List._∷_ 110
-      (List._∷_ 58 (List._∷_ 58 (List._∷_ 70 (List._∷_ 114 (List._∷_ 97 (List._∷_ 99 (List._∷_ 116 (List._∷_ 105 (List._∷_ 111 (List._∷_ 110 List.[])))))))))))))))))) (Syntax.tcons
-      (Syntax.tyInt Syntax.w32) (Syntax.tcons (Syntax.tyInt Syntax.w32) Syntax.tnil))) (Syntax.tcons (Syntax.tyInt Syntax.w32) (Syntax.tcons (Syntax.tyInt Syntax.w32)
+  Rows'.any-gone (Syntax.tyStruct (List._∷_ 103 (List._∷_ 114 (List._∷_ 101 (List._∷_ 101 (List._∷_ 110 (List._∷_ 119 (List._∷_ 97
+      (List._∷_ 108 (List._∷_ 100 (List._∷_ 95 (List._∷_ 107 (List._∷_ 104 (List._∷_ 97 (List._∷_ 110 (List._∷_ 110 (List._∷_ 97 (List._∷_ 95 (List._∷_ 115 (List._∷_ 116 (List._∷_
+      101 (List._∷_ 112 (List._∷_ 115 (List._∷_ 58 (List._∷_ 58 (List._∷_ 83 (List._∷_ 116 (List._∷_ 114 (List._∷_ 101 (List._∷_ 97 (List._∷_ 109
+      List.[])))))))))))))))))))))))))))))) (Syntax.tcons (Syntax.tyStruct (List._∷_ 102 (List._∷_ 114 (List._∷_ 97 (List._∷_ 99 (List._∷_ 116 (List._∷_ 105 (List._∷_ 111 (List._∷_
+      110 (List._∷_ 58 (List._∷_ 58 (List._∷_ 70 (List._∷_ 114 (List._∷_ 97 (List._∷_ 99 (List._∷_ 116 (List._∷_ 105 (List._∷_ 111 (List._∷_ 110 List.[]))))))))))))))))))
+      (Syntax.tcons (Syntax.tyInt Syntax.w32) (Syntax.tcons (Syntax.tyInt Syntax.w32) Syntax.tnil))) (Syntax.tcons (Syntax.tyInt Syntax.w32) (Syntax.tcons (Syntax.tyInt Syntax.w32)
       Syntax.tnil)))),
 ) (List._∷_ (2, Mut.mslice Of.R (Syntax.tyRef (Syntax.named 0) Syntax.mut Of.tyBy) 0) (List._∷_ (3, Rows'.sc-here (Row.sInt Syntax.w32)) (List._∷_ (
   4,
@@ -630,22 +623,23 @@ t6 = List._∷_ (
       (List._∷_ 95 (List._∷_ 107 (List._∷_ 104 (List._∷_ 97 (List._∷_ 110 (List._∷_ 110 (List._∷_ 97 (List._∷_ 58 (List._∷_ 58 (List._∷_ 73 (List._∷_ 110 (List._∷_ 115 (List._∷_ 101
       (List._∷_ 114 (List._∷_ 116 (List._∷_ 101 (List._∷_ 100 List.[])))))))))))))))))))))))))) (Syntax.ttcons (Syntax.tcons (Syntax.tyStruct (List._∷_ 103 (List._∷_ 114 (List._∷_
       101 (List._∷_ 101 (List._∷_ 110 (List._∷_ 119 (List._∷_ 97 (List._∷_ 108 (List._∷_ 100 (List._∷_ 95 (List._∷_ 107 (List._∷_ 104 (List._∷_ 97 (List._∷_ 110 (List._∷_ 110
-      (List._∷_ 97 (List._∷_ 58 (List._∷_ 58 (List._∷_ 83 (List._∷_ 116 (List._∷_ 114 (List._∷_ 101 (List._∷_ 97 (List._∷_ 109 List.[])))))))))))))))))))))))) (Syntax.tcons
-      (Syntax.tyStruct (List._∷_ 102 (List._∷_ 114 (List._∷_ 97 (List._∷_ 99 (List._∷_ 116 (List._∷_ 105 (List._∷_ 111 (List._∷_ 110 (List._∷_ 58 (List._∷_ 58 (List._∷_ 70 (List._∷_
-      114 (List._∷_ 97 (List._∷_ 99 (List._∷_ 116 (List._∷_ 105 (List._∷_ 111 (List._∷_ 110 List.[])))))))))))))))))) (Syntax.tcons (Syntax.tyInt Syntax.w32) (Syntax.tcons
-      (Syntax.tyInt Syntax.w32) Syntax.tnil))) (Syntax.tcons (Syntax.tyInt Syntax.w32) (Syntax.tcons (Syntax.tyInt Syntax.w32) Syntax.tnil)))) Syntax.tnil) (Syntax.ttcons
-      (Syntax.tcons (Syntax.tyEnum (List._∷_ 114 (List._∷_ 101 (List._∷_ 102 (List._∷_ 117 (List._∷_ 115 (List._∷_ 97 (List._∷_ 108 (List._∷_ 58 (List._∷_ 58 (List._∷_ 82 (List._∷_
-      101 (List._∷_ 102 (List._∷_ 117 (List._∷_ 115 (List._∷_ 97 (List._∷_ 108 List.[])))))))))))))))) (Syntax.ttcons Syntax.tnil (Syntax.ttcons Syntax.tnil (Syntax.ttcons
-      Syntax.tnil (Syntax.ttcons Syntax.tnil (Syntax.ttcons Syntax.tnil (Syntax.ttcons Syntax.tnil (Syntax.ttcons Syntax.tnil (Syntax.ttcons Syntax.tnil (Syntax.ttcons Syntax.tnil
-      (Syntax.ttcons Syntax.tnil (Syntax.ttcons Syntax.tnil (Syntax.ttcons Syntax.tnil Syntax.ttnil))))))))))))) Syntax.tnil) Syntax.ttnil))),
+      (List._∷_ 97 (List._∷_ 95 (List._∷_ 115 (List._∷_ 116 (List._∷_ 101 (List._∷_ 112 (List._∷_ 115 (List._∷_ 58 (List._∷_ 58 (List._∷_ 83 (List._∷_ 116 (List._∷_ 114 (List._∷_ 101
+      (List._∷_ 97 (List._∷_ 109 List.[])))))))))))))))))))))))))))))) (Syntax.tcons (Syntax.tyStruct (List._∷_ 102 (List._∷_ 114 (List._∷_ 97 (List._∷_ 99 (List._∷_ 116 (List._∷_
+      105 (List._∷_ 111 (List._∷_ 110 (List._∷_ 58 (List._∷_ 58 (List._∷_ 70 (List._∷_ 114 (List._∷_ 97 (List._∷_ 99 (List._∷_ 116 (List._∷_ 105 (List._∷_ 111 (List._∷_ 110
+      List.[])))))))))))))))))) (Syntax.tcons (Syntax.tyInt Syntax.w32) (Syntax.tcons (Syntax.tyInt Syntax.w32) Syntax.tnil))) (Syntax.tcons (Syntax.tyInt Syntax.w32) (Syntax.tcons
+      (Syntax.tyInt Syntax.w32) Syntax.tnil)))) Syntax.tnil) (Syntax.ttcons (Syntax.tcons (Syntax.tyEnum (List._∷_ 114 (List._∷_ 101 (List._∷_ 102 (List._∷_ 117 (List._∷_ 115
+      (List._∷_ 97 (List._∷_ 108 (List._∷_ 58 (List._∷_ 58 (List._∷_ 82 (List._∷_ 101 (List._∷_ 102 (List._∷_ 117 (List._∷_ 115 (List._∷_ 97 (List._∷_ 108 List.[]))))))))))))))))
+      (Syntax.ttcons Syntax.tnil (Syntax.ttcons Syntax.tnil (Syntax.ttcons Syntax.tnil (Syntax.ttcons Syntax.tnil (Syntax.ttcons Syntax.tnil (Syntax.ttcons Syntax.tnil (Syntax.ttcons
+      Syntax.tnil (Syntax.ttcons Syntax.tnil (Syntax.ttcons Syntax.tnil (Syntax.ttcons Syntax.tnil (Syntax.ttcons Syntax.tnil (Syntax.ttcons Syntax.tnil Syntax.ttnil)))))))))))))
+      Syntax.tnil) Syntax.ttnil))),
 ) (List._∷_ (
   1,
-  Rows'.any-gone
-      (Syntax.tyStruct (List._∷_ 103 (List._∷_ 114 (List._∷_ 101 (List._∷_ 101 (List._∷_ 110 (List._∷_ 119 (List._∷_ 97 (List._∷_ 108 (List._∷_ 100 (List._∷_ 95 (List._∷_ 107
-      (List._∷_ 104 (List._∷_ 97 (List._∷_ 110 (List._∷_ 110 (List._∷_ 97 (List._∷_ 58 (List._∷_ 58 (List._∷_ 83 (List._∷_ 116 (List._∷_ 114 (List._∷_ 101 (List._∷_ 97 (List._∷_ 109
-      List.[])))))))))))))))))))))))) (Syntax.tcons (Syntax.tyStruct (List._∷_ 102 (List._∷_ 114 (List._∷_ 97 (List._∷_ 99 (List._∷_ 116 (List._∷_ 105 (List._∷_ 111 (List._∷_ 110
-      (List._∷_ 58 (List._∷_ 58 (List._∷_ 70 (List._∷_ 114 (List._∷_ 97 (List._∷_ 99 (List._∷_ 116 (List._∷_ 105 (List._∷_ 111 (List._∷_ 110 List.[])))))))))))))))))) (Syntax.tcons
-      (Syntax.tyInt Syntax.w32) (Syntax.tcons (Syntax.tyInt Syntax.w32) Syntax.tnil))) (Syntax.tcons (Syntax.tyInt Syntax.w32) (Syntax.tcons (Syntax.tyInt Syntax.w32)
+  Rows'.any-gone (Syntax.tyStruct (List._∷_ 103 (List._∷_ 114 (List._∷_ 101 (List._∷_ 101 (List._∷_ 110 (List._∷_ 119 (List._∷_ 97
+      (List._∷_ 108 (List._∷_ 100 (List._∷_ 95 (List._∷_ 107 (List._∷_ 104 (List._∷_ 97 (List._∷_ 110 (List._∷_ 110 (List._∷_ 97 (List._∷_ 95 (List._∷_ 115 (List._∷_ 116 (List._∷_
+      101 (List._∷_ 112 (List._∷_ 115 (List._∷_ 58 (List._∷_ 58 (List._∷_ 83 (List._∷_ 116 (List._∷_ 114 (List._∷_ 101 (List._∷_ 97 (List._∷_ 109
+      List.[])))))))))))))))))))))))))))))) (Syntax.tcons (Syntax.tyStruct (List._∷_ 102 (List._∷_ 114 (List._∷_ 97 (List._∷_ 99 (List._∷_ 116 (List._∷_ 105 (List._∷_ 111 (List._∷_
+      110 (List._∷_ 58 (List._∷_ 58 (List._∷_ 70 (List._∷_ 114 (List._∷_ 97 (List._∷_ 99 (List._∷_ 116 (List._∷_ 105 (List._∷_ 111 (List._∷_ 110 List.[]))))))))))))))))))
+      (Syntax.tcons (Syntax.tyInt Syntax.w32) (Syntax.tcons (Syntax.tyInt Syntax.w32) Syntax.tnil))) (Syntax.tcons (Syntax.tyInt Syntax.w32) (Syntax.tcons (Syntax.tyInt Syntax.w32)
       Syntax.tnil)))),
 ) (List._∷_ (2, Mut.mslice Of.R (Syntax.tyRef (Syntax.named 0) Syntax.mut Of.tyBy) 0) (List._∷_ (3, Rows'.sc-here (Row.sInt Syntax.w32)) (List._∷_ (
   4,
@@ -686,22 +680,23 @@ t7 = List._∷_ (
       (List._∷_ 95 (List._∷_ 107 (List._∷_ 104 (List._∷_ 97 (List._∷_ 110 (List._∷_ 110 (List._∷_ 97 (List._∷_ 58 (List._∷_ 58 (List._∷_ 73 (List._∷_ 110 (List._∷_ 115 (List._∷_ 101
       (List._∷_ 114 (List._∷_ 116 (List._∷_ 101 (List._∷_ 100 List.[])))))))))))))))))))))))))) (Syntax.ttcons (Syntax.tcons (Syntax.tyStruct (List._∷_ 103 (List._∷_ 114 (List._∷_
       101 (List._∷_ 101 (List._∷_ 110 (List._∷_ 119 (List._∷_ 97 (List._∷_ 108 (List._∷_ 100 (List._∷_ 95 (List._∷_ 107 (List._∷_ 104 (List._∷_ 97 (List._∷_ 110 (List._∷_ 110
-      (List._∷_ 97 (List._∷_ 58 (List._∷_ 58 (List._∷_ 83 (List._∷_ 116 (List._∷_ 114 (List._∷_ 101 (List._∷_ 97 (List._∷_ 109 List.[])))))))))))))))))))))))) (Syntax.tcons
-      (Syntax.tyStruct (List._∷_ 102 (List._∷_ 114 (List._∷_ 97 (List._∷_ 99 (List._∷_ 116 (List._∷_ 105 (List._∷_ 111 (List._∷_ 110 (List._∷_ 58 (List._∷_ 58 (List._∷_ 70 (List._∷_
-      114 (List._∷_ 97 (List._∷_ 99 (List._∷_ 116 (List._∷_ 105 (List._∷_ 111 (List._∷_ 110 List.[])))))))))))))))))) (Syntax.tcons (Syntax.tyInt Syntax.w32) (Syntax.tcons
-      (Syntax.tyInt Syntax.w32) Syntax.tnil))) (Syntax.tcons (Syntax.tyInt Syntax.w32) (Syntax.tcons (Syntax.tyInt Syntax.w32) Syntax.tnil)))) Syntax.tnil) (Syntax.ttcons
-      (Syntax.tcons (Syntax.tyEnum (List._∷_ 114 (List._∷_ 101 (List._∷_ 102 (List._∷_ 117 (List._∷_ 115 (List._∷_ 97 (List._∷_ 108 (List._∷_ 58 (List._∷_ 58 (List._∷_ 82 (List._∷_
-      101 (List._∷_ 102 (List._∷_ 117 (List._∷_ 115 (List._∷_ 97 (List._∷_ 108 List.[])))))))))))))))) (Syntax.ttcons Syntax.tnil (Syntax.ttcons Syntax.tnil (Syntax.ttcons
-      Syntax.tnil (Syntax.ttcons Syntax.tnil (Syntax.ttcons Syntax.tnil (Syntax.ttcons Syntax.tnil (Syntax.ttcons Syntax.tnil (Syntax.ttcons Syntax.tnil (Syntax.ttcons Syntax.tnil
-      (Syntax.ttcons Syntax.tnil (Syntax.ttcons Syntax.tnil (Syntax.ttcons Syntax.tnil Syntax.ttnil))))))))))))) Syntax.tnil) Syntax.ttnil))),
+      (List._∷_ 97 (List._∷_ 95 (List._∷_ 115 (List._∷_ 116 (List._∷_ 101 (List._∷_ 112 (List._∷_ 115 (List._∷_ 58 (List._∷_ 58 (List._∷_ 83 (List._∷_ 116 (List._∷_ 114 (List._∷_ 101
+      (List._∷_ 97 (List._∷_ 109 List.[])))))))))))))))))))))))))))))) (Syntax.tcons (Syntax.tyStruct (List._∷_ 102 (List._∷_ 114 (List._∷_ 97 (List._∷_ 99 (List._∷_ 116 (List._∷_
+      105 (List._∷_ 111 (List._∷_ 110 (List._∷_ 58 (List._∷_ 58 (List._∷_ 70 (List._∷_ 114 (List._∷_ 97 (List._∷_ 99 (List._∷_ 116 (List._∷_ 105 (List._∷_ 111 (List._∷_ 110
+      List.[])))))))))))))))))) (Syntax.tcons (Syntax.tyInt Syntax.w32) (Syntax.tcons (Syntax.tyInt Syntax.w32) Syntax.tnil))) (Syntax.tcons (Syntax.tyInt Syntax.w32) (Syntax.tcons
+      (Syntax.tyInt Syntax.w32) Syntax.tnil)))) Syntax.tnil) (Syntax.ttcons (Syntax.tcons (Syntax.tyEnum (List._∷_ 114 (List._∷_ 101 (List._∷_ 102 (List._∷_ 117 (List._∷_ 115
+      (List._∷_ 97 (List._∷_ 108 (List._∷_ 58 (List._∷_ 58 (List._∷_ 82 (List._∷_ 101 (List._∷_ 102 (List._∷_ 117 (List._∷_ 115 (List._∷_ 97 (List._∷_ 108 List.[]))))))))))))))))
+      (Syntax.ttcons Syntax.tnil (Syntax.ttcons Syntax.tnil (Syntax.ttcons Syntax.tnil (Syntax.ttcons Syntax.tnil (Syntax.ttcons Syntax.tnil (Syntax.ttcons Syntax.tnil (Syntax.ttcons
+      Syntax.tnil (Syntax.ttcons Syntax.tnil (Syntax.ttcons Syntax.tnil (Syntax.ttcons Syntax.tnil (Syntax.ttcons Syntax.tnil (Syntax.ttcons Syntax.tnil Syntax.ttnil)))))))))))))
+      Syntax.tnil) Syntax.ttnil))),
 ) (List._∷_ (
   1,
-  Rows'.any-gone
-      (Syntax.tyStruct (List._∷_ 103 (List._∷_ 114 (List._∷_ 101 (List._∷_ 101 (List._∷_ 110 (List._∷_ 119 (List._∷_ 97 (List._∷_ 108 (List._∷_ 100 (List._∷_ 95 (List._∷_ 107
-      (List._∷_ 104 (List._∷_ 97 (List._∷_ 110 (List._∷_ 110 (List._∷_ 97 (List._∷_ 58 (List._∷_ 58 (List._∷_ 83 (List._∷_ 116 (List._∷_ 114 (List._∷_ 101 (List._∷_ 97 (List._∷_ 109
-      List.[])))))))))))))))))))))))) (Syntax.tcons (Syntax.tyStruct (List._∷_ 102 (List._∷_ 114 (List._∷_ 97 (List._∷_ 99 (List._∷_ 116 (List._∷_ 105 (List._∷_ 111 (List._∷_ 110
-      (List._∷_ 58 (List._∷_ 58 (List._∷_ 70 (List._∷_ 114 (List._∷_ 97 (List._∷_ 99 (List._∷_ 116 (List._∷_ 105 (List._∷_ 111 (List._∷_ 110 List.[])))))))))))))))))) (Syntax.tcons
-      (Syntax.tyInt Syntax.w32) (Syntax.tcons (Syntax.tyInt Syntax.w32) Syntax.tnil))) (Syntax.tcons (Syntax.tyInt Syntax.w32) (Syntax.tcons (Syntax.tyInt Syntax.w32)
+  Rows'.any-gone (Syntax.tyStruct (List._∷_ 103 (List._∷_ 114 (List._∷_ 101 (List._∷_ 101 (List._∷_ 110 (List._∷_ 119 (List._∷_ 97
+      (List._∷_ 108 (List._∷_ 100 (List._∷_ 95 (List._∷_ 107 (List._∷_ 104 (List._∷_ 97 (List._∷_ 110 (List._∷_ 110 (List._∷_ 97 (List._∷_ 95 (List._∷_ 115 (List._∷_ 116 (List._∷_
+      101 (List._∷_ 112 (List._∷_ 115 (List._∷_ 58 (List._∷_ 58 (List._∷_ 83 (List._∷_ 116 (List._∷_ 114 (List._∷_ 101 (List._∷_ 97 (List._∷_ 109
+      List.[])))))))))))))))))))))))))))))) (Syntax.tcons (Syntax.tyStruct (List._∷_ 102 (List._∷_ 114 (List._∷_ 97 (List._∷_ 99 (List._∷_ 116 (List._∷_ 105 (List._∷_ 111 (List._∷_
+      110 (List._∷_ 58 (List._∷_ 58 (List._∷_ 70 (List._∷_ 114 (List._∷_ 97 (List._∷_ 99 (List._∷_ 116 (List._∷_ 105 (List._∷_ 111 (List._∷_ 110 List.[]))))))))))))))))))
+      (Syntax.tcons (Syntax.tyInt Syntax.w32) (Syntax.tcons (Syntax.tyInt Syntax.w32) Syntax.tnil))) (Syntax.tcons (Syntax.tyInt Syntax.w32) (Syntax.tcons (Syntax.tyInt Syntax.w32)
       Syntax.tnil)))),
 ) (List._∷_ (2, Mut.mslice Of.R (Syntax.tyRef (Syntax.named 0) Syntax.mut Of.tyBy) 0) (List._∷_ (3, Rows'.sc-here (Row.sInt Syntax.w32)) (List._∷_ (
   4,
@@ -737,107 +732,125 @@ abbrev pub t8 : List.List Row.Entry
 t8 = List._∷_ (0, Rows'.whole (Declared.row Inserted.the-type)) (List._∷_ (
   1,
   Rows'.any-gone (Syntax.tyStruct (List._∷_ 103 (List._∷_ 114 (List._∷_ 101 (List._∷_ 101 (List._∷_ 110
-      (List._∷_ 119 (List._∷_ 97 (List._∷_ 108 (List._∷_ 100 (List._∷_ 95 (List._∷_ 107 (List._∷_ 104 (List._∷_ 97 (List._∷_ 110 (List._∷_ 110 (List._∷_ 97 (List._∷_ 58 (List._∷_ 58
-      (List._∷_ 83 (List._∷_ 116 (List._∷_ 114 (List._∷_ 101 (List._∷_ 97 (List._∷_ 109 List.[])))))))))))))))))))))))) (Syntax.tcons (Syntax.tyStruct (List._∷_ 102 (List._∷_ 114
-      (List._∷_ 97 (List._∷_ 99 (List._∷_ 116 (List._∷_ 105 (List._∷_ 111 (List._∷_ 110 (List._∷_ 58 (List._∷_ 58 (List._∷_ 70 (List._∷_ 114 (List._∷_ 97 (List._∷_ 99 (List._∷_ 116
-      (List._∷_ 105 (List._∷_ 111 (List._∷_ 110 List.[])))))))))))))))))) (Syntax.tcons (Syntax.tyInt Syntax.w32) (Syntax.tcons (Syntax.tyInt Syntax.w32) Syntax.tnil))) (Syntax.tcons
-      (Syntax.tyInt Syntax.w32) (Syntax.tcons (Syntax.tyInt Syntax.w32) Syntax.tnil)))),
-) (List._∷_ (2, Mut.mslice Of.R (Syntax.tyRef (Syntax.named 0) Syntax.mut Of.tyBy) 0)
-    (List._∷_ (3, Rows'.sc-here (Row.sInt Syntax.w32)) (List._∷_ (4, Rows'.sc-here (Row.sInt Syntax.w64)) (List._∷_ (5, Rows'.any-gone (Syntax.tyInt Syntax.w64)) (List._∷_ (
-      6,
-      Rows'.any-gone (Syntax.tyArray (Syntax.tyArray (Syntax.tyInt Syntax.w32) 3) 256),
+      (List._∷_ 119 (List._∷_ 97 (List._∷_ 108 (List._∷_ 100 (List._∷_ 95 (List._∷_ 107 (List._∷_ 104 (List._∷_ 97 (List._∷_ 110 (List._∷_ 110 (List._∷_ 97 (List._∷_ 95 (List._∷_ 115
+      (List._∷_ 116 (List._∷_ 101 (List._∷_ 112 (List._∷_ 115 (List._∷_ 58 (List._∷_ 58 (List._∷_ 83 (List._∷_ 116 (List._∷_ 114 (List._∷_ 101 (List._∷_ 97 (List._∷_ 109
+      List.[])))))))))))))))))))))))))))))) (Syntax.tcons (Syntax.tyStruct (List._∷_ 102 (List._∷_ 114 (List._∷_ 97 (List._∷_ 99 (List._∷_ 116 (List._∷_ 105 (List._∷_ 111 (List._∷_
+      110 (List._∷_ 58 (List._∷_ 58 (List._∷_ 70 (List._∷_ 114 (List._∷_ 97 (List._∷_ 99 (List._∷_ 116 (List._∷_ 105 (List._∷_ 111 (List._∷_ 110 List.[]))))))))))))))))))
+      (Syntax.tcons (Syntax.tyInt Syntax.w32) (Syntax.tcons (Syntax.tyInt Syntax.w32) Syntax.tnil))) (Syntax.tcons (Syntax.tyInt Syntax.w32) (Syntax.tcons (Syntax.tyInt Syntax.w32)
+      Syntax.tnil)))),
+) (List._∷_ (2, Mut.mslice Of.R (Syntax.tyRef (Syntax.named 0) Syntax.mut Of.tyBy) 0) (List._∷_ (3, Rows'.sc-here (Row.sInt Syntax.w32)) (List._∷_ (
+  4,
+  Rows'.sc-here (Row.sInt Syntax.w64),
+) (List._∷_ (5, Rows'.any-gone (Syntax.tyInt Syntax.w64)) (List._∷_ (
+  6,
+  Rows'.any-gone (Syntax.tyArray (Syntax.tyArray (Syntax.tyInt
+      Syntax.w32) 3) 256),
+) (List._∷_ (7, Rows'.any-gone (Syntax.tyArray (Syntax.tyArray (Syntax.tyInt Syntax.w32) 3) 4096)) (List._∷_ (8, Rows'.any-gone Syntax.tyBool) (List._∷_
+    (9, Rows'.whole (Declared.row Refusal.the-type)) (List._∷_ (10, Rows'.any-gone (Syntax.tyArray (Syntax.tyInt Syntax.w32) 3)) (List._∷_ (
+      11,
+      Rows'.any-gone (Syntax.tyRef
+          Syntax.erased Syntax.mut Of.tyBy),
     ) (List._∷_ (
-      7,
-      Rows'.any-gone (Syntax.tyArray (Syntax.tyArray (Syntax.tyInt Syntax.w32) 3)
-          4096),
-    ) (List._∷_ (8, Rows'.any-gone Syntax.tyBool) (List._∷_ (9, Rows'.whole (Declared.row Refusal.the-type)) (List._∷_ (
-      10,
-      Rows'.any-gone (Syntax.tyArray (Syntax.tyInt
-          Syntax.w32) 3),
-    ) (List._∷_ (11, Rows'.any-gone (Syntax.tyRef Syntax.erased Syntax.mut Of.tyBy)) (List._∷_ (
       12,
-      Rows'.any-gone (Syntax.tyStruct (List._∷_ 38 (List._∷_ 91
-          (List._∷_ 93 List.[]))) (Syntax.tcons (Syntax.tyRef Syntax.erased Syntax.mut Of.tyBy) (Syntax.tcons (Syntax.tyInt Syntax.w64) Syntax.tnil))),
+      Rows'.any-gone (Syntax.tyStruct (List._∷_ 38 (List._∷_ 91 (List._∷_ 93 List.[]))) (Syntax.tcons (Syntax.tyRef Syntax.erased
+          Syntax.mut Of.tyBy) (Syntax.tcons (Syntax.tyInt Syntax.w64) Syntax.tnil))),
     ) (List._∷_ (
       13,
-      Rows'.any-gone
-          (Syntax.tyRef Syntax.erased Syntax.mut (Syntax.tyArray (Syntax.tyArray (Syntax.tyInt Syntax.w32) 3) 256)),
+      Rows'.any-gone (Syntax.tyRef Syntax.erased Syntax.mut (Syntax.tyArray
+          (Syntax.tyArray (Syntax.tyInt Syntax.w32) 3) 256)),
     ) (List._∷_ (
       14,
-      Rows'.any-gone (Syntax.tyStruct (List._∷_ 38
-          (List._∷_ 91 (List._∷_ 93 List.[]))) (Syntax.tcons (Syntax.tyRef Syntax.erased Syntax.mut (Syntax.tyArray (Syntax.tyInt Syntax.w32) 3)) (Syntax.tcons (Syntax.tyInt Syntax.w64)
-          Syntax.tnil))),
-    ) (List._∷_ (15, Rows'.any-gone (Syntax.tyArray (Syntax.tyInt Syntax.w32) 3)) List.[])))))))))))))))
+      Rows'.any-gone (Syntax.tyStruct (List._∷_ 38 (List._∷_ 91 (List._∷_ 93 List.[]))) (Syntax.tcons
+          (Syntax.tyRef Syntax.erased Syntax.mut (Syntax.tyArray (Syntax.tyInt Syntax.w32) 3)) (Syntax.tcons (Syntax.tyInt Syntax.w64) Syntax.tnil))),
+    ) (List._∷_ (
+      15,
+      Rows'.any-gone
+          (Syntax.tyArray (Syntax.tyInt Syntax.w32) 3),
+    ) List.[])))))))))))))))
 
 abbrev pub t9 : List.List Row.Entry
 t9 = List._∷_ (0, Rows'.whole (Declared.row Inserted.the-type)) (List._∷_ (
   1,
   Rows'.any-gone (Syntax.tyStruct (List._∷_ 103 (List._∷_ 114 (List._∷_ 101 (List._∷_ 101 (List._∷_ 110
-      (List._∷_ 119 (List._∷_ 97 (List._∷_ 108 (List._∷_ 100 (List._∷_ 95 (List._∷_ 107 (List._∷_ 104 (List._∷_ 97 (List._∷_ 110 (List._∷_ 110 (List._∷_ 97 (List._∷_ 58 (List._∷_ 58
-      (List._∷_ 83 (List._∷_ 116 (List._∷_ 114 (List._∷_ 101 (List._∷_ 97 (List._∷_ 109 List.[])))))))))))))))))))))))) (Syntax.tcons (Syntax.tyStruct (List._∷_ 102 (List._∷_ 114
-      (List._∷_ 97 (List._∷_ 99 (List._∷_ 116 (List._∷_ 105 (List._∷_ 111 (List._∷_ 110 (List._∷_ 58 (List._∷_ 58 (List._∷_ 70 (List._∷_ 114 (List._∷_ 97 (List._∷_ 99 (List._∷_ 116
-      (List._∷_ 105 (List._∷_ 111 (List._∷_ 110 List.[])))))))))))))))))) (Syntax.tcons (Syntax.tyInt Syntax.w32) (Syntax.tcons (Syntax.tyInt Syntax.w32) Syntax.tnil))) (Syntax.tcons
-      (Syntax.tyInt Syntax.w32) (Syntax.tcons (Syntax.tyInt Syntax.w32) Syntax.tnil)))),
-) (List._∷_ (2, Mut.mslice Of.R (Syntax.tyRef (Syntax.named 0) Syntax.mut Of.tyBy) 0)
-    (List._∷_ (3, Rows'.sc-here (Row.sInt Syntax.w32)) (List._∷_ (4, Rows'.sc-here (Row.sInt Syntax.w64)) (List._∷_ (5, Rows'.any-gone (Syntax.tyInt Syntax.w64)) (List._∷_ (
-      6,
-      Rows'.any-gone (Syntax.tyArray (Syntax.tyArray (Syntax.tyInt Syntax.w32) 3) 256),
-    ) (List._∷_ (
-      7,
-      Rows'.any-gone (Syntax.tyArray (Syntax.tyArray (Syntax.tyInt Syntax.w32) 3)
-          4096),
-    ) (List._∷_ (8, Rows'.any-gone Syntax.tyBool) (List._∷_ (
-      9,
-      Rows'.any-gone (Syntax.tyEnum (List._∷_ 114 (List._∷_ 101 (List._∷_ 102 (List._∷_ 117 (List._∷_ 115
-          (List._∷_ 97 (List._∷_ 108 (List._∷_ 58 (List._∷_ 58 (List._∷_ 82 (List._∷_ 101 (List._∷_ 102 (List._∷_ 117 (List._∷_ 115 (List._∷_ 97 (List._∷_ 108 List.[]))))))))))))))))
-          (Syntax.ttcons Syntax.tnil (Syntax.ttcons Syntax.tnil (Syntax.ttcons Syntax.tnil (Syntax.ttcons Syntax.tnil (Syntax.ttcons Syntax.tnil (Syntax.ttcons Syntax.tnil (Syntax.ttcons
-          Syntax.tnil (Syntax.ttcons Syntax.tnil (Syntax.ttcons Syntax.tnil (Syntax.ttcons Syntax.tnil (Syntax.ttcons Syntax.tnil (Syntax.ttcons Syntax.tnil Syntax.ttnil))))))))))))),
-    )
-    (List._∷_ (10, Rows'.any-gone (Syntax.tyArray (Syntax.tyInt Syntax.w32) 3)) (List._∷_ (11, Rows'.any-gone (Syntax.tyRef Syntax.erased Syntax.mut Of.tyBy)) (List._∷_ (
-      12,
-      Rows'.any-gone (Syntax.tyStruct (List._∷_ 38 (List._∷_ 91 (List._∷_ 93 List.[]))) (Syntax.tcons (Syntax.tyRef Syntax.erased Syntax.mut Of.tyBy) (Syntax.tcons (Syntax.tyInt
-          Syntax.w64) Syntax.tnil))),
-    ) (List._∷_ (13, Rows'.any-gone (Syntax.tyRef Syntax.erased Syntax.mut (Syntax.tyArray (Syntax.tyArray (Syntax.tyInt Syntax.w32) 3) 256)))
-    (List._∷_ (
-      14,
-      Rows'.any-gone (Syntax.tyStruct (List._∷_ 38 (List._∷_ 91 (List._∷_ 93 List.[]))) (Syntax.tcons (Syntax.tyRef Syntax.erased Syntax.mut (Syntax.tyArray
-          (Syntax.tyInt Syntax.w32) 3)) (Syntax.tcons (Syntax.tyInt Syntax.w64) Syntax.tnil))),
-    ) (List._∷_ (15, Rows'.any-gone (Syntax.tyArray (Syntax.tyInt Syntax.w32) 3))
-    List.[])))))))))))))))
+      (List._∷_ 119 (List._∷_ 97 (List._∷_ 108 (List._∷_ 100 (List._∷_ 95 (List._∷_ 107 (List._∷_ 104 (List._∷_ 97 (List._∷_ 110 (List._∷_ 110 (List._∷_ 97 (List._∷_ 95 (List._∷_ 115
+      (List._∷_ 116 (List._∷_ 101 (List._∷_ 112 (List._∷_ 115 (List._∷_ 58 (List._∷_ 58 (List._∷_ 83 (List._∷_ 116 (List._∷_ 114 (List._∷_ 101 (List._∷_ 97 (List._∷_ 109
+      List.[])))))))))))))))))))))))))))))) (Syntax.tcons (Syntax.tyStruct (List._∷_ 102 (List._∷_ 114 (List._∷_ 97 (List._∷_ 99 (List._∷_ 116 (List._∷_ 105 (List._∷_ 111 (List._∷_
+      110 (List._∷_ 58 (List._∷_ 58 (List._∷_ 70 (List._∷_ 114 (List._∷_ 97 (List._∷_ 99 (List._∷_ 116 (List._∷_ 105 (List._∷_ 111 (List._∷_ 110 List.[]))))))))))))))))))
+      (Syntax.tcons (Syntax.tyInt Syntax.w32) (Syntax.tcons (Syntax.tyInt Syntax.w32) Syntax.tnil))) (Syntax.tcons (Syntax.tyInt Syntax.w32) (Syntax.tcons (Syntax.tyInt Syntax.w32)
+      Syntax.tnil)))),
+) (List._∷_ (2, Mut.mslice Of.R (Syntax.tyRef (Syntax.named 0) Syntax.mut Of.tyBy) 0) (List._∷_ (3, Rows'.sc-here (Row.sInt Syntax.w32)) (List._∷_ (
+  4,
+  Rows'.sc-here (Row.sInt Syntax.w64),
+) (List._∷_ (5, Rows'.any-gone (Syntax.tyInt Syntax.w64)) (List._∷_ (
+  6,
+  Rows'.any-gone (Syntax.tyArray (Syntax.tyArray (Syntax.tyInt
+      Syntax.w32) 3) 256),
+) (List._∷_ (7, Rows'.any-gone (Syntax.tyArray (Syntax.tyArray (Syntax.tyInt Syntax.w32) 3) 4096)) (List._∷_ (8, Rows'.any-gone Syntax.tyBool) (List._∷_ (
+  9,
+  Rows'.any-gone (Syntax.tyEnum (List._∷_ 114 (List._∷_ 101 (List._∷_ 102 (List._∷_ 117 (List._∷_ 115 (List._∷_ 97 (List._∷_ 108 (List._∷_ 58 (List._∷_ 58 (List._∷_ 82
+      (List._∷_ 101 (List._∷_ 102 (List._∷_ 117 (List._∷_ 115 (List._∷_ 97 (List._∷_ 108 List.[])))))))))))))))) (Syntax.ttcons Syntax.tnil (Syntax.ttcons Syntax.tnil (Syntax.ttcons
+      Syntax.tnil (Syntax.ttcons Syntax.tnil (Syntax.ttcons Syntax.tnil (Syntax.ttcons Syntax.tnil (Syntax.ttcons Syntax.tnil (Syntax.ttcons Syntax.tnil (Syntax.ttcons Syntax.tnil
+      (Syntax.ttcons Syntax.tnil (Syntax.ttcons Syntax.tnil (Syntax.ttcons Syntax.tnil Syntax.ttnil))))))))))))),
+) (List._∷_ (
+  10,
+  Rows'.any-gone (Syntax.tyArray (Syntax.tyInt
+      Syntax.w32) 3),
+) (List._∷_ (11, Rows'.any-gone (Syntax.tyRef Syntax.erased Syntax.mut Of.tyBy)) (List._∷_ (
+  12,
+  Rows'.any-gone (Syntax.tyStruct (List._∷_ 38 (List._∷_ 91
+      (List._∷_ 93 List.[]))) (Syntax.tcons (Syntax.tyRef Syntax.erased Syntax.mut Of.tyBy) (Syntax.tcons (Syntax.tyInt Syntax.w64) Syntax.tnil))),
+) (List._∷_ (
+  13,
+  Rows'.any-gone
+      (Syntax.tyRef Syntax.erased Syntax.mut (Syntax.tyArray (Syntax.tyArray (Syntax.tyInt Syntax.w32) 3) 256)),
+) (List._∷_ (
+  14,
+  Rows'.any-gone (Syntax.tyStruct (List._∷_ 38
+      (List._∷_ 91 (List._∷_ 93 List.[]))) (Syntax.tcons (Syntax.tyRef Syntax.erased Syntax.mut (Syntax.tyArray (Syntax.tyInt Syntax.w32) 3)) (Syntax.tcons (Syntax.tyInt Syntax.w64)
+      Syntax.tnil))),
+) (List._∷_ (15, Rows'.any-gone (Syntax.tyArray (Syntax.tyInt Syntax.w32) 3)) List.[])))))))))))))))
 
 abbrev pub t10 : List.List Row.Entry
 t10 = List._∷_ (0, Rows'.whole (Declared.row Inserted.the-type)) (List._∷_ (
   1,
   Rows'.any-gone (Syntax.tyStruct (List._∷_ 103 (List._∷_ 114 (List._∷_ 101 (List._∷_ 101 (List._∷_
-      110 (List._∷_ 119 (List._∷_ 97 (List._∷_ 108 (List._∷_ 100 (List._∷_ 95 (List._∷_ 107 (List._∷_ 104 (List._∷_ 97 (List._∷_ 110 (List._∷_ 110 (List._∷_ 97 (List._∷_ 58 (List._∷_
-      58 (List._∷_ 83 (List._∷_ 116 (List._∷_ 114 (List._∷_ 101 (List._∷_ 97 (List._∷_ 109 List.[])))))))))))))))))))))))) (Syntax.tcons (Syntax.tyStruct (List._∷_ 102 (List._∷_ 114
-      (List._∷_ 97 (List._∷_ 99 (List._∷_ 116 (List._∷_ 105 (List._∷_ 111 (List._∷_ 110 (List._∷_ 58 (List._∷_ 58 (List._∷_ 70 (List._∷_ 114 (List._∷_ 97 (List._∷_ 99 (List._∷_ 116
-      (List._∷_ 105 (List._∷_ 111 (List._∷_ 110 List.[])))))))))))))))))) (Syntax.tcons (Syntax.tyInt Syntax.w32) (Syntax.tcons (Syntax.tyInt Syntax.w32) Syntax.tnil))) (Syntax.tcons
-      (Syntax.tyInt Syntax.w32) (Syntax.tcons (Syntax.tyInt Syntax.w32) Syntax.tnil)))),
-) (List._∷_ (2, Mut.mslice Of.R (Syntax.tyRef (Syntax.named 0) Syntax.mut Of.tyBy) 0)
-    (List._∷_ (3, Rows'.any-gone (Syntax.tyInt Syntax.w32)) (List._∷_ (4, Rows'.sc-here (Row.sInt Syntax.w64)) (List._∷_ (5, Rows'.any-gone (Syntax.tyInt Syntax.w64)) (List._∷_
-    (6, Rows'.any-gone (Syntax.tyArray (Syntax.tyArray (Syntax.tyInt Syntax.w32) 3) 256)) (List._∷_ (
-      7,
-      Rows'.any-gone (Syntax.tyArray (Syntax.tyArray (Syntax.tyInt Syntax.w32)
-          3) 4096),
-    ) (List._∷_ (8, Rows'.any-gone Syntax.tyBool) (List._∷_ (
-      9,
-      Rows'.any-gone (Syntax.tyEnum (List._∷_ 114 (List._∷_ 101 (List._∷_ 102 (List._∷_ 117 (List._∷_ 115
-          (List._∷_ 97 (List._∷_ 108 (List._∷_ 58 (List._∷_ 58 (List._∷_ 82 (List._∷_ 101 (List._∷_ 102 (List._∷_ 117 (List._∷_ 115 (List._∷_ 97 (List._∷_ 108 List.[]))))))))))))))))
-          (Syntax.ttcons Syntax.tnil (Syntax.ttcons Syntax.tnil (Syntax.ttcons Syntax.tnil (Syntax.ttcons Syntax.tnil (Syntax.ttcons Syntax.tnil (Syntax.ttcons Syntax.tnil (Syntax.ttcons
-          Syntax.tnil (Syntax.ttcons Syntax.tnil (Syntax.ttcons Syntax.tnil (Syntax.ttcons Syntax.tnil (Syntax.ttcons Syntax.tnil (Syntax.ttcons Syntax.tnil Syntax.ttnil))))))))))))),
-    )
-    (List._∷_ (10, Rows'.any-gone (Syntax.tyArray (Syntax.tyInt Syntax.w32) 3)) (List._∷_ (11, Rows'.any-gone (Syntax.tyRef Syntax.erased Syntax.mut Of.tyBy)) (List._∷_ (
-      12,
-      Rows'.any-gone (Syntax.tyStruct (List._∷_ 38 (List._∷_ 91 (List._∷_ 93 List.[]))) (Syntax.tcons (Syntax.tyRef Syntax.erased Syntax.mut Of.tyBy) (Syntax.tcons (Syntax.tyInt
-          Syntax.w64) Syntax.tnil))),
-    ) (List._∷_ (13, Rows'.any-gone (Syntax.tyRef Syntax.erased Syntax.mut (Syntax.tyArray (Syntax.tyArray (Syntax.tyInt Syntax.w32) 3) 256)))
-    (List._∷_ (
-      14,
-      Rows'.any-gone (Syntax.tyStruct (List._∷_ 38 (List._∷_ 91 (List._∷_ 93 List.[]))) (Syntax.tcons (Syntax.tyRef Syntax.erased Syntax.mut (Syntax.tyArray
-          (Syntax.tyInt Syntax.w32) 3)) (Syntax.tcons (Syntax.tyInt Syntax.w64) Syntax.tnil))),
-    ) (List._∷_ (15, Rows'.any-gone (Syntax.tyArray (Syntax.tyInt Syntax.w32) 3))
-    List.[])))))))))))))))
+      110 (List._∷_ 119 (List._∷_ 97 (List._∷_ 108 (List._∷_ 100 (List._∷_ 95 (List._∷_ 107 (List._∷_ 104 (List._∷_ 97 (List._∷_ 110 (List._∷_ 110 (List._∷_ 97 (List._∷_ 95 (List._∷_
+      115 (List._∷_ 116 (List._∷_ 101 (List._∷_ 112 (List._∷_ 115 (List._∷_ 58 (List._∷_ 58 (List._∷_ 83 (List._∷_ 116 (List._∷_ 114 (List._∷_ 101 (List._∷_ 97 (List._∷_ 109
+      List.[])))))))))))))))))))))))))))))) (Syntax.tcons (Syntax.tyStruct (List._∷_ 102 (List._∷_ 114 (List._∷_ 97 (List._∷_ 99 (List._∷_ 116 (List._∷_ 105 (List._∷_ 111 (List._∷_
+      110 (List._∷_ 58 (List._∷_ 58 (List._∷_ 70 (List._∷_ 114 (List._∷_ 97 (List._∷_ 99 (List._∷_ 116 (List._∷_ 105 (List._∷_ 111 (List._∷_ 110 List.[]))))))))))))))))))
+      (Syntax.tcons (Syntax.tyInt Syntax.w32) (Syntax.tcons (Syntax.tyInt Syntax.w32) Syntax.tnil))) (Syntax.tcons (Syntax.tyInt Syntax.w32) (Syntax.tcons (Syntax.tyInt Syntax.w32)
+      Syntax.tnil)))),
+) (List._∷_ (2, Mut.mslice Of.R (Syntax.tyRef (Syntax.named 0) Syntax.mut Of.tyBy) 0) (List._∷_ (3, Rows'.any-gone (Syntax.tyInt Syntax.w32)) (List._∷_ (
+  4,
+  Rows'.sc-here (Row.sInt Syntax.w64),
+) (List._∷_ (5, Rows'.any-gone (Syntax.tyInt Syntax.w64)) (List._∷_ (
+  6,
+  Rows'.any-gone (Syntax.tyArray (Syntax.tyArray (Syntax.tyInt
+      Syntax.w32) 3) 256),
+) (List._∷_ (7, Rows'.any-gone (Syntax.tyArray (Syntax.tyArray (Syntax.tyInt Syntax.w32) 3) 4096)) (List._∷_ (8, Rows'.any-gone Syntax.tyBool) (List._∷_ (
+  9,
+  Rows'.any-gone (Syntax.tyEnum (List._∷_ 114 (List._∷_ 101 (List._∷_ 102 (List._∷_ 117 (List._∷_ 115 (List._∷_ 97 (List._∷_ 108 (List._∷_ 58 (List._∷_ 58 (List._∷_ 82
+      (List._∷_ 101 (List._∷_ 102 (List._∷_ 117 (List._∷_ 115 (List._∷_ 97 (List._∷_ 108 List.[])))))))))))))))) (Syntax.ttcons Syntax.tnil (Syntax.ttcons Syntax.tnil (Syntax.ttcons
+      Syntax.tnil (Syntax.ttcons Syntax.tnil (Syntax.ttcons Syntax.tnil (Syntax.ttcons Syntax.tnil (Syntax.ttcons Syntax.tnil (Syntax.ttcons Syntax.tnil (Syntax.ttcons Syntax.tnil
+      (Syntax.ttcons Syntax.tnil (Syntax.ttcons Syntax.tnil (Syntax.ttcons Syntax.tnil Syntax.ttnil))))))))))))),
+) (List._∷_ (
+  10,
+  Rows'.any-gone (Syntax.tyArray (Syntax.tyInt
+      Syntax.w32) 3),
+) (List._∷_ (11, Rows'.any-gone (Syntax.tyRef Syntax.erased Syntax.mut Of.tyBy)) (List._∷_ (
+  12,
+  Rows'.any-gone (Syntax.tyStruct (List._∷_ 38 (List._∷_ 91
+      (List._∷_ 93 List.[]))) (Syntax.tcons (Syntax.tyRef Syntax.erased Syntax.mut Of.tyBy) (Syntax.tcons (Syntax.tyInt Syntax.w64) Syntax.tnil))),
+) (List._∷_ (
+  13,
+  Rows'.any-gone
+      (Syntax.tyRef Syntax.erased Syntax.mut (Syntax.tyArray (Syntax.tyArray (Syntax.tyInt Syntax.w32) 3) 256)),
+) (List._∷_ (
+  14,
+  Rows'.any-gone (Syntax.tyStruct (List._∷_ 38
+      (List._∷_ 91 (List._∷_ 93 List.[]))) (Syntax.tcons (Syntax.tyRef Syntax.erased Syntax.mut (Syntax.tyArray (Syntax.tyInt Syntax.w32) 3)) (Syntax.tcons (Syntax.tyInt Syntax.w64)
+      Syntax.tnil))),
+) (List._∷_ (15, Rows'.any-gone (Syntax.tyArray (Syntax.tyInt Syntax.w32) 3)) List.[])))))))))))))))
 
 abbrev pub t11 : List.List Row.Entry
 t11 = List._∷_ (
@@ -846,48 +859,43 @@ t11 = List._∷_ (
       (List._∷_ 95 (List._∷_ 107 (List._∷_ 104 (List._∷_ 97 (List._∷_ 110 (List._∷_ 110 (List._∷_ 97 (List._∷_ 58 (List._∷_ 58 (List._∷_ 73 (List._∷_ 110 (List._∷_ 115 (List._∷_ 101
       (List._∷_ 114 (List._∷_ 116 (List._∷_ 101 (List._∷_ 100 List.[])))))))))))))))))))))))))) (Syntax.ttcons (Syntax.tcons (Syntax.tyStruct (List._∷_ 103 (List._∷_ 114 (List._∷_
       101 (List._∷_ 101 (List._∷_ 110 (List._∷_ 119 (List._∷_ 97 (List._∷_ 108 (List._∷_ 100 (List._∷_ 95 (List._∷_ 107 (List._∷_ 104 (List._∷_ 97 (List._∷_ 110 (List._∷_ 110
-      (List._∷_ 97 (List._∷_ 58 (List._∷_ 58 (List._∷_ 83 (List._∷_ 116 (List._∷_ 114 (List._∷_ 101 (List._∷_ 97 (List._∷_ 109 List.[])))))))))))))))))))))))) (Syntax.tcons
-      (Syntax.tyStruct (List._∷_ 102 (List._∷_ 114 (List._∷_ 97 (List._∷_ 99 (List._∷_ 116 (List._∷_ 105 (List._∷_ 111 (List._∷_ 110 (List._∷_ 58 (List._∷_ 58 (List._∷_ 70 (List._∷_
-      114 (List._∷_ 97 (List._∷_ 99 (List._∷_ 116 (List._∷_ 105 (List._∷_ 111 (List._∷_ 110 List.[])))))))))))))))))) (Syntax.tcons (Syntax.tyInt Syntax.w32) (Syntax.tcons
-      (Syntax.tyInt Syntax.w32) Syntax.tnil))) (Syntax.tcons (Syntax.tyInt Syntax.w32) (Syntax.tcons (Syntax.tyInt Syntax.w32) Syntax.tnil)))) Syntax.tnil) (Syntax.ttcons
-      (Syntax.tcons (Syntax.tyEnum (List._∷_ 114 (List._∷_ 101 (List._∷_ 102 (List._∷_ 117 (List._∷_ 115 (List._∷_ 97 (List._∷_ 108 (List._∷_ 58 (List._∷_ 58 (List._∷_ 82 (List._∷_
-      101 (List._∷_ 102 (List._∷_ 117 (List._∷_ 115 (List._∷_ 97 (List._∷_ 108 List.[])))))))))))))))) (Syntax.ttcons Syntax.tnil (Syntax.ttcons Syntax.tnil (Syntax.ttcons
-      Syntax.tnil (Syntax.ttcons Syntax.tnil (Syntax.ttcons Syntax.tnil (Syntax.ttcons Syntax.tnil (Syntax.ttcons Syntax.tnil (Syntax.ttcons Syntax.tnil (Syntax.ttcons Syntax.tnil
-      (Syntax.ttcons Syntax.tnil (Syntax.ttcons Syntax.tnil (Syntax.ttcons Syntax.tnil Syntax.ttnil))))))))))))) Syntax.tnil) Syntax.ttnil))),
+      (List._∷_ 97 (List._∷_ 95 (List._∷_ 115 (List._∷_ 116 (List._∷_ 101 (List._∷_ 112 (List._∷_ 115 (List._∷_ 58 (List._∷_ 58 (List._∷_ 83 (List._∷_ 116 (List._∷_ 114 (List._∷_ 101
+      (List._∷_ 97 (List._∷_ 109 List.[])))))))))))))))))))))))))))))) (Syntax.tcons (Syntax.tyStruct (List._∷_ 102 (List._∷_ 114 (List._∷_ 97 (List._∷_ 99 (List._∷_ 116 (List._∷_
+      105 (List._∷_ 111 (List._∷_ 110 (List._∷_ 58 (List._∷_ 58 (List._∷_ 70 (List._∷_ 114 (List._∷_ 97 (List._∷_ 99 (List._∷_ 116 (List._∷_ 105 (List._∷_ 111 (List._∷_ 110
+      List.[])))))))))))))))))) (Syntax.tcons (Syntax.tyInt Syntax.w32) (Syntax.tcons (Syntax.tyInt Syntax.w32) Syntax.tnil))) (Syntax.tcons (Syntax.tyInt Syntax.w32) (Syntax.tcons
+      (Syntax.tyInt Syntax.w32) Syntax.tnil)))) Syntax.tnil) (Syntax.ttcons (Syntax.tcons (Syntax.tyEnum (List._∷_ 114 (List._∷_ 101 (List._∷_ 102 (List._∷_ 117 (List._∷_ 115
+      (List._∷_ 97 (List._∷_ 108 (List._∷_ 58 (List._∷_ 58 (List._∷_ 82 (List._∷_ 101 (List._∷_ 102 (List._∷_ 117 (List._∷_ 115 (List._∷_ 97 (List._∷_ 108 List.[]))))))))))))))))
+      (Syntax.ttcons Syntax.tnil (Syntax.ttcons Syntax.tnil (Syntax.ttcons Syntax.tnil (Syntax.ttcons Syntax.tnil (Syntax.ttcons Syntax.tnil (Syntax.ttcons Syntax.tnil (Syntax.ttcons
+      Syntax.tnil (Syntax.ttcons Syntax.tnil (Syntax.ttcons Syntax.tnil (Syntax.ttcons Syntax.tnil (Syntax.ttcons Syntax.tnil (Syntax.ttcons Syntax.tnil Syntax.ttnil)))))))))))))
+      Syntax.tnil) Syntax.ttnil))),
+) (List._∷_ (1, Rows'.whole (Declared'.row Stream.the-type)) (List._∷_ (
+  2,
+  Mut.mslice Of.R (Syntax.tyRef (Syntax.named 0) Syntax.mut Of.tyBy) 0,
+) (List._∷_ (3, Rows'.sc-here (Row.sInt Syntax.w32)) (List._∷_ (4, Rows'.sc-here (Row.sInt Syntax.w64)) (List._∷_ (5, Rows'.sc-here (Row.sInt Syntax.w64)) (List._∷_ (
+  6,
+  Rows'.any-gone (Syntax.tyArray (Syntax.tyArray (Syntax.tyInt Syntax.w32) 3) 256),
 ) (List._∷_ (
-  1,
-  Rows'.whole
-      (Declared'.row Stream.the-type),
-) (List._∷_ (2, Mut.mslice Of.R (Syntax.tyRef (Syntax.named 0) Syntax.mut Of.tyBy) 0) (List._∷_ (3, Rows'.sc-here (Row.sInt Syntax.w32))
-    (List._∷_ (4, Rows'.sc-here (Row.sInt Syntax.w64)) (List._∷_ (5, Rows'.sc-here (Row.sInt Syntax.w64)) (List._∷_ (
-      6,
-      Rows'.any-gone (Syntax.tyArray (Syntax.tyArray
-          (Syntax.tyInt Syntax.w32) 3) 256),
-    ) (List._∷_ (7, Rows'.any-gone (Syntax.tyArray (Syntax.tyArray (Syntax.tyInt Syntax.w32) 3) 4096)) (List._∷_ (
-      8,
-      Rows'.any-gone
-          Syntax.tyBool,
-    ) (List._∷_ (
-      9,
-      Rows'.any-gone (Syntax.tyEnum (List._∷_ 114 (List._∷_ 101 (List._∷_ 102 (List._∷_ 117 (List._∷_ 115 (List._∷_ 97 (List._∷_ 108 (List._∷_ 58
-          (List._∷_ 58 (List._∷_ 82 (List._∷_ 101 (List._∷_ 102 (List._∷_ 117 (List._∷_ 115 (List._∷_ 97 (List._∷_ 108 List.[])))))))))))))))) (Syntax.ttcons Syntax.tnil (Syntax.ttcons
-          Syntax.tnil (Syntax.ttcons Syntax.tnil (Syntax.ttcons Syntax.tnil (Syntax.ttcons Syntax.tnil (Syntax.ttcons Syntax.tnil (Syntax.ttcons Syntax.tnil (Syntax.ttcons Syntax.tnil
-          (Syntax.ttcons Syntax.tnil (Syntax.ttcons Syntax.tnil (Syntax.ttcons Syntax.tnil (Syntax.ttcons Syntax.tnil Syntax.ttnil))))))))))))),
-    ) (List._∷_ (
-      10,
-      Rows'.any-gone
-          (Syntax.tyArray (Syntax.tyInt Syntax.w32) 3),
-    ) (List._∷_ (11, Rows'.any-gone (Syntax.tyRef Syntax.erased Syntax.mut Of.tyBy)) (List._∷_ (
+  7,
+  Rows'.any-gone (Syntax.tyArray (Syntax.tyArray (Syntax.tyInt Syntax.w32) 3)
+      4096),
+) (List._∷_ (8, Rows'.any-gone Syntax.tyBool) (List._∷_ (
+  9,
+  Rows'.any-gone (Syntax.tyEnum (List._∷_ 114 (List._∷_ 101 (List._∷_ 102 (List._∷_ 117 (List._∷_ 115
+      (List._∷_ 97 (List._∷_ 108 (List._∷_ 58 (List._∷_ 58 (List._∷_ 82 (List._∷_ 101 (List._∷_ 102 (List._∷_ 117 (List._∷_ 115 (List._∷_ 97 (List._∷_ 108 List.[]))))))))))))))))
+      (Syntax.ttcons Syntax.tnil (Syntax.ttcons Syntax.tnil (Syntax.ttcons Syntax.tnil (Syntax.ttcons Syntax.tnil (Syntax.ttcons Syntax.tnil (Syntax.ttcons Syntax.tnil (Syntax.ttcons
+      Syntax.tnil (Syntax.ttcons Syntax.tnil (Syntax.ttcons Syntax.tnil (Syntax.ttcons Syntax.tnil (Syntax.ttcons Syntax.tnil (Syntax.ttcons Syntax.tnil Syntax.ttnil))))))))))))),
+)
+    (List._∷_ (10, Rows'.any-gone (Syntax.tyArray (Syntax.tyInt Syntax.w32) 3)) (List._∷_ (11, Rows'.any-gone (Syntax.tyRef Syntax.erased Syntax.mut Of.tyBy)) (List._∷_ (
       12,
-      Rows'.any-gone (Syntax.tyStruct
-          (List._∷_ 38 (List._∷_ 91 (List._∷_ 93 List.[]))) (Syntax.tcons (Syntax.tyRef Syntax.erased Syntax.mut Of.tyBy) (Syntax.tcons (Syntax.tyInt Syntax.w64) Syntax.tnil))),
-    )
-    (List._∷_ (13, Rows'.any-gone (Syntax.tyRef Syntax.erased Syntax.mut (Syntax.tyArray (Syntax.tyArray (Syntax.tyInt Syntax.w32) 3) 256))) (List._∷_ (
+      Rows'.any-gone (Syntax.tyStruct (List._∷_ 38 (List._∷_ 91 (List._∷_ 93 List.[]))) (Syntax.tcons (Syntax.tyRef Syntax.erased Syntax.mut Of.tyBy) (Syntax.tcons (Syntax.tyInt
+          Syntax.w64) Syntax.tnil))),
+    ) (List._∷_ (13, Rows'.any-gone (Syntax.tyRef Syntax.erased Syntax.mut (Syntax.tyArray (Syntax.tyArray (Syntax.tyInt Syntax.w32) 3) 256)))
+    (List._∷_ (
       14,
-      Rows'.any-gone
-          (Syntax.tyStruct (List._∷_ 38 (List._∷_ 91 (List._∷_ 93 List.[]))) (Syntax.tcons (Syntax.tyRef Syntax.erased Syntax.mut (Syntax.tyArray (Syntax.tyInt Syntax.w32) 3))
-          (Syntax.tcons (Syntax.tyInt Syntax.w64) Syntax.tnil))),
-    ) (List._∷_ (15, Rows'.any-gone (Syntax.tyArray (Syntax.tyInt Syntax.w32) 3)) List.[])))))))))))))))
+      Rows'.any-gone (Syntax.tyStruct (List._∷_ 38 (List._∷_ 91 (List._∷_ 93 List.[]))) (Syntax.tcons (Syntax.tyRef Syntax.erased Syntax.mut (Syntax.tyArray
+          (Syntax.tyInt Syntax.w32) 3)) (Syntax.tcons (Syntax.tyInt Syntax.w64) Syntax.tnil))),
+    ) (List._∷_ (15, Rows'.any-gone (Syntax.tyArray (Syntax.tyInt Syntax.w32) 3))
+    List.[])))))))))))))))
 
 abbrev pub t12 : List.List Row.Entry
 t12 = List._∷_ (
@@ -896,47 +904,43 @@ t12 = List._∷_ (
       (List._∷_ 95 (List._∷_ 107 (List._∷_ 104 (List._∷_ 97 (List._∷_ 110 (List._∷_ 110 (List._∷_ 97 (List._∷_ 58 (List._∷_ 58 (List._∷_ 73 (List._∷_ 110 (List._∷_ 115 (List._∷_ 101
       (List._∷_ 114 (List._∷_ 116 (List._∷_ 101 (List._∷_ 100 List.[])))))))))))))))))))))))))) (Syntax.ttcons (Syntax.tcons (Syntax.tyStruct (List._∷_ 103 (List._∷_ 114 (List._∷_
       101 (List._∷_ 101 (List._∷_ 110 (List._∷_ 119 (List._∷_ 97 (List._∷_ 108 (List._∷_ 100 (List._∷_ 95 (List._∷_ 107 (List._∷_ 104 (List._∷_ 97 (List._∷_ 110 (List._∷_ 110
-      (List._∷_ 97 (List._∷_ 58 (List._∷_ 58 (List._∷_ 83 (List._∷_ 116 (List._∷_ 114 (List._∷_ 101 (List._∷_ 97 (List._∷_ 109 List.[])))))))))))))))))))))))) (Syntax.tcons
-      (Syntax.tyStruct (List._∷_ 102 (List._∷_ 114 (List._∷_ 97 (List._∷_ 99 (List._∷_ 116 (List._∷_ 105 (List._∷_ 111 (List._∷_ 110 (List._∷_ 58 (List._∷_ 58 (List._∷_ 70 (List._∷_
-      114 (List._∷_ 97 (List._∷_ 99 (List._∷_ 116 (List._∷_ 105 (List._∷_ 111 (List._∷_ 110 List.[])))))))))))))))))) (Syntax.tcons (Syntax.tyInt Syntax.w32) (Syntax.tcons
-      (Syntax.tyInt Syntax.w32) Syntax.tnil))) (Syntax.tcons (Syntax.tyInt Syntax.w32) (Syntax.tcons (Syntax.tyInt Syntax.w32) Syntax.tnil)))) Syntax.tnil) (Syntax.ttcons
-      (Syntax.tcons (Syntax.tyEnum (List._∷_ 114 (List._∷_ 101 (List._∷_ 102 (List._∷_ 117 (List._∷_ 115 (List._∷_ 97 (List._∷_ 108 (List._∷_ 58 (List._∷_ 58 (List._∷_ 82 (List._∷_
-      101 (List._∷_ 102 (List._∷_ 117 (List._∷_ 115 (List._∷_ 97 (List._∷_ 108 List.[])))))))))))))))) (Syntax.ttcons Syntax.tnil (Syntax.ttcons Syntax.tnil (Syntax.ttcons
-      Syntax.tnil (Syntax.ttcons Syntax.tnil (Syntax.ttcons Syntax.tnil (Syntax.ttcons Syntax.tnil (Syntax.ttcons Syntax.tnil (Syntax.ttcons Syntax.tnil (Syntax.ttcons Syntax.tnil
-      (Syntax.ttcons Syntax.tnil (Syntax.ttcons Syntax.tnil (Syntax.ttcons Syntax.tnil Syntax.ttnil))))))))))))) Syntax.tnil) Syntax.ttnil))),
+      (List._∷_ 97 (List._∷_ 95 (List._∷_ 115 (List._∷_ 116 (List._∷_ 101 (List._∷_ 112 (List._∷_ 115 (List._∷_ 58 (List._∷_ 58 (List._∷_ 83 (List._∷_ 116 (List._∷_ 114 (List._∷_ 101
+      (List._∷_ 97 (List._∷_ 109 List.[])))))))))))))))))))))))))))))) (Syntax.tcons (Syntax.tyStruct (List._∷_ 102 (List._∷_ 114 (List._∷_ 97 (List._∷_ 99 (List._∷_ 116 (List._∷_
+      105 (List._∷_ 111 (List._∷_ 110 (List._∷_ 58 (List._∷_ 58 (List._∷_ 70 (List._∷_ 114 (List._∷_ 97 (List._∷_ 99 (List._∷_ 116 (List._∷_ 105 (List._∷_ 111 (List._∷_ 110
+      List.[])))))))))))))))))) (Syntax.tcons (Syntax.tyInt Syntax.w32) (Syntax.tcons (Syntax.tyInt Syntax.w32) Syntax.tnil))) (Syntax.tcons (Syntax.tyInt Syntax.w32) (Syntax.tcons
+      (Syntax.tyInt Syntax.w32) Syntax.tnil)))) Syntax.tnil) (Syntax.ttcons (Syntax.tcons (Syntax.tyEnum (List._∷_ 114 (List._∷_ 101 (List._∷_ 102 (List._∷_ 117 (List._∷_ 115
+      (List._∷_ 97 (List._∷_ 108 (List._∷_ 58 (List._∷_ 58 (List._∷_ 82 (List._∷_ 101 (List._∷_ 102 (List._∷_ 117 (List._∷_ 115 (List._∷_ 97 (List._∷_ 108 List.[]))))))))))))))))
+      (Syntax.ttcons Syntax.tnil (Syntax.ttcons Syntax.tnil (Syntax.ttcons Syntax.tnil (Syntax.ttcons Syntax.tnil (Syntax.ttcons Syntax.tnil (Syntax.ttcons Syntax.tnil (Syntax.ttcons
+      Syntax.tnil (Syntax.ttcons Syntax.tnil (Syntax.ttcons Syntax.tnil (Syntax.ttcons Syntax.tnil (Syntax.ttcons Syntax.tnil (Syntax.ttcons Syntax.tnil Syntax.ttnil)))))))))))))
+      Syntax.tnil) Syntax.ttnil))),
+) (List._∷_ (1, Rows'.whole (Declared'.row Stream.the-type)) (List._∷_ (
+  2,
+  Mut.mslice Of.R (Syntax.tyRef (Syntax.named 0) Syntax.mut Of.tyBy) 0,
+) (List._∷_ (3, Rows'.sc-here (Row.sInt Syntax.w32)) (List._∷_ (4, Rows'.sc-here (Row.sInt Syntax.w64)) (List._∷_ (5, Rows'.sc-here (Row.sInt Syntax.w64)) (List._∷_ (
+  6,
+  Rows'.any-gone (Syntax.tyArray (Syntax.tyArray (Syntax.tyInt Syntax.w32) 3) 256),
 ) (List._∷_ (
-  1,
-  Rows'.whole
-      (Declared'.row Stream.the-type),
-) (List._∷_ (2, Mut.mslice Of.R (Syntax.tyRef (Syntax.named 0) Syntax.mut Of.tyBy) 0) (List._∷_ (3, Rows'.sc-here (Row.sInt Syntax.w32))
-    (List._∷_ (4, Rows'.sc-here (Row.sInt Syntax.w64)) (List._∷_ (5, Rows'.sc-here (Row.sInt Syntax.w64)) (List._∷_ (
-      6,
-      Rows'.any-gone (Syntax.tyArray (Syntax.tyArray
-          (Syntax.tyInt Syntax.w32) 3) 256),
-    ) (List._∷_ (7, Rows'.any-gone (Syntax.tyArray (Syntax.tyArray (Syntax.tyInt Syntax.w32) 3) 4096)) (List._∷_ (8, Rows'.sc-here Row.sBool)
-    (List._∷_ (
-      9,
-      Rows'.any-gone (Syntax.tyEnum (List._∷_ 114 (List._∷_ 101 (List._∷_ 102 (List._∷_ 117 (List._∷_ 115 (List._∷_ 97 (List._∷_ 108 (List._∷_ 58 (List._∷_ 58
-          (List._∷_ 82 (List._∷_ 101 (List._∷_ 102 (List._∷_ 117 (List._∷_ 115 (List._∷_ 97 (List._∷_ 108 List.[])))))))))))))))) (Syntax.ttcons Syntax.tnil (Syntax.ttcons Syntax.tnil
-          (Syntax.ttcons Syntax.tnil (Syntax.ttcons Syntax.tnil (Syntax.ttcons Syntax.tnil (Syntax.ttcons Syntax.tnil (Syntax.ttcons Syntax.tnil (Syntax.ttcons Syntax.tnil (Syntax.ttcons
-          Syntax.tnil (Syntax.ttcons Syntax.tnil (Syntax.ttcons Syntax.tnil (Syntax.ttcons Syntax.tnil Syntax.ttnil))))))))))))),
-    ) (List._∷_ (
-      10,
-      Rows'.any-gone (Syntax.tyArray
-          (Syntax.tyInt Syntax.w32) 3),
-    ) (List._∷_ (11, Rows'.any-gone (Syntax.tyRef Syntax.erased Syntax.mut Of.tyBy)) (List._∷_ (
+  7,
+  Rows'.any-gone (Syntax.tyArray (Syntax.tyArray (Syntax.tyInt Syntax.w32) 3)
+      4096),
+) (List._∷_ (8, Rows'.sc-here Row.sBool) (List._∷_ (
+  9,
+  Rows'.any-gone (Syntax.tyEnum (List._∷_ 114 (List._∷_ 101 (List._∷_ 102 (List._∷_ 117 (List._∷_ 115 (List._∷_ 97
+      (List._∷_ 108 (List._∷_ 58 (List._∷_ 58 (List._∷_ 82 (List._∷_ 101 (List._∷_ 102 (List._∷_ 117 (List._∷_ 115 (List._∷_ 97 (List._∷_ 108 List.[])))))))))))))))) (Syntax.ttcons
+      Syntax.tnil (Syntax.ttcons Syntax.tnil (Syntax.ttcons Syntax.tnil (Syntax.ttcons Syntax.tnil (Syntax.ttcons Syntax.tnil (Syntax.ttcons Syntax.tnil (Syntax.ttcons Syntax.tnil
+      (Syntax.ttcons Syntax.tnil (Syntax.ttcons Syntax.tnil (Syntax.ttcons Syntax.tnil (Syntax.ttcons Syntax.tnil (Syntax.ttcons Syntax.tnil Syntax.ttnil))))))))))))),
+) (List._∷_
+    (10, Rows'.any-gone (Syntax.tyArray (Syntax.tyInt Syntax.w32) 3)) (List._∷_ (11, Rows'.any-gone (Syntax.tyRef Syntax.erased Syntax.mut Of.tyBy)) (List._∷_ (
       12,
-      Rows'.any-gone (Syntax.tyStruct (List._∷_ 38
-          (List._∷_ 91 (List._∷_ 93 List.[]))) (Syntax.tcons (Syntax.tyRef Syntax.erased Syntax.mut Of.tyBy) (Syntax.tcons (Syntax.tyInt Syntax.w64) Syntax.tnil))),
-    ) (List._∷_ (
-      13,
-      Rows'.any-gone (Syntax.tyRef Syntax.erased Syntax.mut (Syntax.tyArray (Syntax.tyArray (Syntax.tyInt Syntax.w32) 3) 256)),
-    ) (List._∷_ (
-      14,
-      Rows'.any-gone (Syntax.tyStruct
-          (List._∷_ 38 (List._∷_ 91 (List._∷_ 93 List.[]))) (Syntax.tcons (Syntax.tyRef Syntax.erased Syntax.mut (Syntax.tyArray (Syntax.tyInt Syntax.w32) 3)) (Syntax.tcons (Syntax.tyInt
+      Rows'.any-gone (Syntax.tyStruct (List._∷_ 38 (List._∷_ 91 (List._∷_ 93 List.[]))) (Syntax.tcons (Syntax.tyRef Syntax.erased Syntax.mut Of.tyBy) (Syntax.tcons (Syntax.tyInt
           Syntax.w64) Syntax.tnil))),
-    ) (List._∷_ (15, Rows'.any-gone (Syntax.tyArray (Syntax.tyInt Syntax.w32) 3)) List.[])))))))))))))))
+    ) (List._∷_ (13, Rows'.any-gone (Syntax.tyRef Syntax.erased Syntax.mut (Syntax.tyArray (Syntax.tyArray (Syntax.tyInt Syntax.w32) 3) 256)))
+    (List._∷_ (
+      14,
+      Rows'.any-gone (Syntax.tyStruct (List._∷_ 38 (List._∷_ 91 (List._∷_ 93 List.[]))) (Syntax.tcons (Syntax.tyRef Syntax.erased Syntax.mut (Syntax.tyArray
+          (Syntax.tyInt Syntax.w32) 3)) (Syntax.tcons (Syntax.tyInt Syntax.w64) Syntax.tnil))),
+    ) (List._∷_ (15, Rows'.any-gone (Syntax.tyArray (Syntax.tyInt Syntax.w32) 3))
+    List.[])))))))))))))))
 
 abbrev pub t13 : List.List Row.Entry
 t13 = List._∷_ (
@@ -945,38 +949,181 @@ t13 = List._∷_ (
       (List._∷_ 95 (List._∷_ 107 (List._∷_ 104 (List._∷_ 97 (List._∷_ 110 (List._∷_ 110 (List._∷_ 97 (List._∷_ 58 (List._∷_ 58 (List._∷_ 73 (List._∷_ 110 (List._∷_ 115 (List._∷_ 101
       (List._∷_ 114 (List._∷_ 116 (List._∷_ 101 (List._∷_ 100 List.[])))))))))))))))))))))))))) (Syntax.ttcons (Syntax.tcons (Syntax.tyStruct (List._∷_ 103 (List._∷_ 114 (List._∷_
       101 (List._∷_ 101 (List._∷_ 110 (List._∷_ 119 (List._∷_ 97 (List._∷_ 108 (List._∷_ 100 (List._∷_ 95 (List._∷_ 107 (List._∷_ 104 (List._∷_ 97 (List._∷_ 110 (List._∷_ 110
-      (List._∷_ 97 (List._∷_ 58 (List._∷_ 58 (List._∷_ 83 (List._∷_ 116 (List._∷_ 114 (List._∷_ 101 (List._∷_ 97 (List._∷_ 109 List.[])))))))))))))))))))))))) (Syntax.tcons
-      (Syntax.tyStruct (List._∷_ 102 (List._∷_ 114 (List._∷_ 97 (List._∷_ 99 (List._∷_ 116 (List._∷_ 105 (List._∷_ 111 (List._∷_ 110 (List._∷_ 58 (List._∷_ 58 (List._∷_ 70 (List._∷_
-      114 (List._∷_ 97 (List._∷_ 99 (List._∷_ 116 (List._∷_ 105 (List._∷_ 111 (List._∷_ 110 List.[])))))))))))))))))) (Syntax.tcons (Syntax.tyInt Syntax.w32) (Syntax.tcons
-      (Syntax.tyInt Syntax.w32) Syntax.tnil))) (Syntax.tcons (Syntax.tyInt Syntax.w32) (Syntax.tcons (Syntax.tyInt Syntax.w32) Syntax.tnil)))) Syntax.tnil) (Syntax.ttcons
-      (Syntax.tcons (Syntax.tyEnum (List._∷_ 114 (List._∷_ 101 (List._∷_ 102 (List._∷_ 117 (List._∷_ 115 (List._∷_ 97 (List._∷_ 108 (List._∷_ 58 (List._∷_ 58 (List._∷_ 82 (List._∷_
-      101 (List._∷_ 102 (List._∷_ 117 (List._∷_ 115 (List._∷_ 97 (List._∷_ 108 List.[])))))))))))))))) (Syntax.ttcons Syntax.tnil (Syntax.ttcons Syntax.tnil (Syntax.ttcons
-      Syntax.tnil (Syntax.ttcons Syntax.tnil (Syntax.ttcons Syntax.tnil (Syntax.ttcons Syntax.tnil (Syntax.ttcons Syntax.tnil (Syntax.ttcons Syntax.tnil (Syntax.ttcons Syntax.tnil
-      (Syntax.ttcons Syntax.tnil (Syntax.ttcons Syntax.tnil (Syntax.ttcons Syntax.tnil Syntax.ttnil))))))))))))) Syntax.tnil) Syntax.ttnil))),
+      (List._∷_ 97 (List._∷_ 95 (List._∷_ 115 (List._∷_ 116 (List._∷_ 101 (List._∷_ 112 (List._∷_ 115 (List._∷_ 58 (List._∷_ 58 (List._∷_ 83 (List._∷_ 116 (List._∷_ 114 (List._∷_ 101
+      (List._∷_ 97 (List._∷_ 109 List.[])))))))))))))))))))))))))))))) (Syntax.tcons (Syntax.tyStruct (List._∷_ 102 (List._∷_ 114 (List._∷_ 97 (List._∷_ 99 (List._∷_ 116 (List._∷_
+      105 (List._∷_ 111 (List._∷_ 110 (List._∷_ 58 (List._∷_ 58 (List._∷_ 70 (List._∷_ 114 (List._∷_ 97 (List._∷_ 99 (List._∷_ 116 (List._∷_ 105 (List._∷_ 111 (List._∷_ 110
+      List.[])))))))))))))))))) (Syntax.tcons (Syntax.tyInt Syntax.w32) (Syntax.tcons (Syntax.tyInt Syntax.w32) Syntax.tnil))) (Syntax.tcons (Syntax.tyInt Syntax.w32) (Syntax.tcons
+      (Syntax.tyInt Syntax.w32) Syntax.tnil)))) Syntax.tnil) (Syntax.ttcons (Syntax.tcons (Syntax.tyEnum (List._∷_ 114 (List._∷_ 101 (List._∷_ 102 (List._∷_ 117 (List._∷_ 115
+      (List._∷_ 97 (List._∷_ 108 (List._∷_ 58 (List._∷_ 58 (List._∷_ 82 (List._∷_ 101 (List._∷_ 102 (List._∷_ 117 (List._∷_ 115 (List._∷_ 97 (List._∷_ 108 List.[]))))))))))))))))
+      (Syntax.ttcons Syntax.tnil (Syntax.ttcons Syntax.tnil (Syntax.ttcons Syntax.tnil (Syntax.ttcons Syntax.tnil (Syntax.ttcons Syntax.tnil (Syntax.ttcons Syntax.tnil (Syntax.ttcons
+      Syntax.tnil (Syntax.ttcons Syntax.tnil (Syntax.ttcons Syntax.tnil (Syntax.ttcons Syntax.tnil (Syntax.ttcons Syntax.tnil (Syntax.ttcons Syntax.tnil Syntax.ttnil)))))))))))))
+      Syntax.tnil) Syntax.ttnil))),
+) (List._∷_ (1, Rows'.whole (Declared'.row Stream.the-type)) (List._∷_ (
+  2,
+  Mut.mslice Of.R (Syntax.tyRef (Syntax.named 0) Syntax.mut Of.tyBy) 0,
+) (List._∷_ (3, Rows'.sc-here (Row.sInt Syntax.w32)) (List._∷_ (4, Rows'.sc-here (Row.sInt Syntax.w64)) (List._∷_ (5, Rows'.sc-here (Row.sInt Syntax.w64)) (List._∷_ (
+  6,
+  Rows'.any-gone (Syntax.tyArray (Syntax.tyArray (Syntax.tyInt Syntax.w32) 3) 256),
 ) (List._∷_ (
-  1,
-  Rows'.whole
-      (Declared'.row Stream.the-type),
-) (List._∷_ (2, Mut.mslice Of.R (Syntax.tyRef (Syntax.named 0) Syntax.mut Of.tyBy) 0) (List._∷_ (3, Rows'.sc-here (Row.sInt Syntax.w32))
-    (List._∷_ (4, Rows'.sc-here (Row.sInt Syntax.w64)) (List._∷_ (5, Rows'.sc-here (Row.sInt Syntax.w64)) (List._∷_ (
-      6,
-      Rows'.any-gone (Syntax.tyArray (Syntax.tyArray
-          (Syntax.tyInt Syntax.w32) 3) 256),
-    ) (List._∷_ (7, Rows'.any-gone (Syntax.tyArray (Syntax.tyArray (Syntax.tyInt Syntax.w32) 3) 4096)) (List._∷_ (
-      8,
-      Rows'.any-gone
-          Syntax.tyBool,
+  7,
+  Rows'.any-gone (Syntax.tyArray (Syntax.tyArray (Syntax.tyInt Syntax.w32) 3)
+      4096),
+) (List._∷_ (8, Rows'.any-gone Syntax.tyBool) (List._∷_ (
+  9,
+  Rows'.any-gone (Syntax.tyEnum (List._∷_ 114 (List._∷_ 101 (List._∷_ 102 (List._∷_ 117 (List._∷_ 115
+      (List._∷_ 97 (List._∷_ 108 (List._∷_ 58 (List._∷_ 58 (List._∷_ 82 (List._∷_ 101 (List._∷_ 102 (List._∷_ 117 (List._∷_ 115 (List._∷_ 97 (List._∷_ 108 List.[]))))))))))))))))
+      (Syntax.ttcons Syntax.tnil (Syntax.ttcons Syntax.tnil (Syntax.ttcons Syntax.tnil (Syntax.ttcons Syntax.tnil (Syntax.ttcons Syntax.tnil (Syntax.ttcons Syntax.tnil (Syntax.ttcons
+      Syntax.tnil (Syntax.ttcons Syntax.tnil (Syntax.ttcons Syntax.tnil (Syntax.ttcons Syntax.tnil (Syntax.ttcons Syntax.tnil (Syntax.ttcons Syntax.tnil Syntax.ttnil))))))))))))),
+)
+    (List._∷_ (10, Rows'.whole (Array'.Array (Referent.rtF (Referent.fInt Syntax.w32)) 3)) (List._∷_ (11, Rows'.any-gone (Syntax.tyRef Syntax.erased Syntax.mut Of.tyBy))
+    (List._∷_ (
+      12,
+      Rows'.any-gone (Syntax.tyStruct (List._∷_ 38 (List._∷_ 91 (List._∷_ 93 List.[]))) (Syntax.tcons (Syntax.tyRef Syntax.erased Syntax.mut Of.tyBy) (Syntax.tcons
+          (Syntax.tyInt Syntax.w64) Syntax.tnil))),
     ) (List._∷_ (
-      9,
-      Rows'.any-gone (Syntax.tyEnum (List._∷_ 114 (List._∷_ 101 (List._∷_ 102 (List._∷_ 117 (List._∷_ 115 (List._∷_ 97 (List._∷_ 108 (List._∷_ 58
-          (List._∷_ 58 (List._∷_ 82 (List._∷_ 101 (List._∷_ 102 (List._∷_ 117 (List._∷_ 115 (List._∷_ 97 (List._∷_ 108 List.[])))))))))))))))) (Syntax.ttcons Syntax.tnil (Syntax.ttcons
-          Syntax.tnil (Syntax.ttcons Syntax.tnil (Syntax.ttcons Syntax.tnil (Syntax.ttcons Syntax.tnil (Syntax.ttcons Syntax.tnil (Syntax.ttcons Syntax.tnil (Syntax.ttcons Syntax.tnil
-          (Syntax.ttcons Syntax.tnil (Syntax.ttcons Syntax.tnil (Syntax.ttcons Syntax.tnil (Syntax.ttcons Syntax.tnil Syntax.ttnil))))))))))))),
+      13,
+      Rows'.any-gone (Syntax.tyRef Syntax.erased Syntax.mut (Syntax.tyArray (Syntax.tyArray (Syntax.tyInt Syntax.w32) 3)
+          256)),
     ) (List._∷_ (
-      10,
-      Rows'.whole
-          (Array'.Array (Referent.rtF (Referent.fInt Syntax.w32)) 3),
-    ) (List._∷_ (11, Rows'.any-gone (Syntax.tyRef Syntax.erased Syntax.mut Of.tyBy)) (List._∷_ (
+      14,
+      Rows'.any-gone (Syntax.tyStruct (List._∷_ 38 (List._∷_ 91 (List._∷_ 93 List.[]))) (Syntax.tcons (Syntax.tyRef Syntax.erased Syntax.mut (Syntax.tyArray
+          (Syntax.tyInt Syntax.w32) 3)) (Syntax.tcons (Syntax.tyInt Syntax.w64) Syntax.tnil))),
+    ) (List._∷_ (15, Rows'.any-gone (Syntax.tyArray (Syntax.tyInt Syntax.w32) 3))
+    List.[])))))))))))))))
+
+abbrev pub t14 : List.List Row.Entry
+t14 = List._∷_ (
+  0,
+  Rows'.any-gone (Syntax.tyEnum (List._∷_ 103 (List._∷_ 114 (List._∷_ 101 (List._∷_ 101 (List._∷_ 110 (List._∷_ 119 (List._∷_ 97 (List._∷_ 108 (List._∷_ 100
+      (List._∷_ 95 (List._∷_ 107 (List._∷_ 104 (List._∷_ 97 (List._∷_ 110 (List._∷_ 110 (List._∷_ 97 (List._∷_ 58 (List._∷_ 58 (List._∷_ 73 (List._∷_ 110 (List._∷_ 115 (List._∷_ 101
+      (List._∷_ 114 (List._∷_ 116 (List._∷_ 101 (List._∷_ 100 List.[])))))))))))))))))))))))))) (Syntax.ttcons (Syntax.tcons (Syntax.tyStruct (List._∷_ 103 (List._∷_ 114 (List._∷_
+      101 (List._∷_ 101 (List._∷_ 110 (List._∷_ 119 (List._∷_ 97 (List._∷_ 108 (List._∷_ 100 (List._∷_ 95 (List._∷_ 107 (List._∷_ 104 (List._∷_ 97 (List._∷_ 110 (List._∷_ 110
+      (List._∷_ 97 (List._∷_ 95 (List._∷_ 115 (List._∷_ 116 (List._∷_ 101 (List._∷_ 112 (List._∷_ 115 (List._∷_ 58 (List._∷_ 58 (List._∷_ 83 (List._∷_ 116 (List._∷_ 114 (List._∷_ 101
+      (List._∷_ 97 (List._∷_ 109 List.[])))))))))))))))))))))))))))))) (Syntax.tcons (Syntax.tyStruct (List._∷_ 102 (List._∷_ 114 (List._∷_ 97 (List._∷_ 99 (List._∷_ 116 (List._∷_
+      105 (List._∷_ 111 (List._∷_ 110 (List._∷_ 58 (List._∷_ 58 (List._∷_ 70 (List._∷_ 114 (List._∷_ 97 (List._∷_ 99 (List._∷_ 116 (List._∷_ 105 (List._∷_ 111 (List._∷_ 110
+      List.[])))))))))))))))))) (Syntax.tcons (Syntax.tyInt Syntax.w32) (Syntax.tcons (Syntax.tyInt Syntax.w32) Syntax.tnil))) (Syntax.tcons (Syntax.tyInt Syntax.w32) (Syntax.tcons
+      (Syntax.tyInt Syntax.w32) Syntax.tnil)))) Syntax.tnil) (Syntax.ttcons (Syntax.tcons (Syntax.tyEnum (List._∷_ 114 (List._∷_ 101 (List._∷_ 102 (List._∷_ 117 (List._∷_ 115
+      (List._∷_ 97 (List._∷_ 108 (List._∷_ 58 (List._∷_ 58 (List._∷_ 82 (List._∷_ 101 (List._∷_ 102 (List._∷_ 117 (List._∷_ 115 (List._∷_ 97 (List._∷_ 108 List.[]))))))))))))))))
+      (Syntax.ttcons Syntax.tnil (Syntax.ttcons Syntax.tnil (Syntax.ttcons Syntax.tnil (Syntax.ttcons Syntax.tnil (Syntax.ttcons Syntax.tnil (Syntax.ttcons Syntax.tnil (Syntax.ttcons
+      Syntax.tnil (Syntax.ttcons Syntax.tnil (Syntax.ttcons Syntax.tnil (Syntax.ttcons Syntax.tnil (Syntax.ttcons Syntax.tnil (Syntax.ttcons Syntax.tnil Syntax.ttnil)))))))))))))
+      Syntax.tnil) Syntax.ttnil))),
+) (List._∷_ (1, Rows'.whole (Declared'.row Stream.the-type)) (List._∷_ (
+  2,
+  Mut.mslice Of.R (Syntax.tyRef (Syntax.named 0) Syntax.mut Of.tyBy) 0,
+) (List._∷_ (3, Rows'.sc-here (Row.sInt Syntax.w32)) (List._∷_ (4, Rows'.sc-here (Row.sInt Syntax.w64)) (List._∷_ (5, Rows'.sc-here (Row.sInt Syntax.w64)) (List._∷_ (
+  6,
+  Rows'.any-gone (Syntax.tyArray (Syntax.tyArray (Syntax.tyInt Syntax.w32) 3) 256),
+) (List._∷_ (
+  7,
+  Rows'.any-gone (Syntax.tyArray (Syntax.tyArray (Syntax.tyInt Syntax.w32) 3)
+      4096),
+) (List._∷_ (8, Rows'.any-gone Syntax.tyBool) (List._∷_ (
+  9,
+  Rows'.any-gone (Syntax.tyEnum (List._∷_ 114 (List._∷_ 101 (List._∷_ 102 (List._∷_ 117 (List._∷_ 115
+      (List._∷_ 97 (List._∷_ 108 (List._∷_ 58 (List._∷_ 58 (List._∷_ 82 (List._∷_ 101 (List._∷_ 102 (List._∷_ 117 (List._∷_ 115 (List._∷_ 97 (List._∷_ 108 List.[]))))))))))))))))
+      (Syntax.ttcons Syntax.tnil (Syntax.ttcons Syntax.tnil (Syntax.ttcons Syntax.tnil (Syntax.ttcons Syntax.tnil (Syntax.ttcons Syntax.tnil (Syntax.ttcons Syntax.tnil (Syntax.ttcons
+      Syntax.tnil (Syntax.ttcons Syntax.tnil (Syntax.ttcons Syntax.tnil (Syntax.ttcons Syntax.tnil (Syntax.ttcons Syntax.tnil (Syntax.ttcons Syntax.tnil Syntax.ttnil))))))))))))),
+)
+    (List._∷_ (10, Rows.arrF (Referent.rtF (Referent.fInt Syntax.w32)) 3 0) (List._∷_ (11, Rows'.any-gone (Syntax.tyRef Syntax.erased Syntax.mut Of.tyBy)) (List._∷_ (
+      12,
+      Rows'.any-gone (Syntax.tyStruct (List._∷_ 38 (List._∷_ 91 (List._∷_ 93 List.[]))) (Syntax.tcons (Syntax.tyRef Syntax.erased Syntax.mut Of.tyBy) (Syntax.tcons (Syntax.tyInt
+          Syntax.w64) Syntax.tnil))),
+    ) (List._∷_ (13, Rows'.any-gone (Syntax.tyRef Syntax.erased Syntax.mut (Syntax.tyArray (Syntax.tyArray (Syntax.tyInt Syntax.w32) 3) 256)))
+    (List._∷_ (
+      14,
+      Rows'.any-gone (Syntax.tyStruct (List._∷_ 38 (List._∷_ 91 (List._∷_ 93 List.[]))) (Syntax.tcons (Syntax.tyRef Syntax.erased Syntax.mut (Syntax.tyArray
+          (Syntax.tyInt Syntax.w32) 3)) (Syntax.tcons (Syntax.tyInt Syntax.w64) Syntax.tnil))),
+    ) (List._∷_ (15, Rows'.any-gone (Syntax.tyArray (Syntax.tyInt Syntax.w32) 3))
+    List.[])))))))))))))))
+
+abbrev pub t15 : List.List Row.Entry
+t15 = List._∷_ (
+  0,
+  Rows'.any-gone (Syntax.tyEnum (List._∷_ 103 (List._∷_ 114 (List._∷_ 101 (List._∷_ 101 (List._∷_ 110 (List._∷_ 119 (List._∷_ 97 (List._∷_ 108 (List._∷_ 100
+      (List._∷_ 95 (List._∷_ 107 (List._∷_ 104 (List._∷_ 97 (List._∷_ 110 (List._∷_ 110 (List._∷_ 97 (List._∷_ 58 (List._∷_ 58 (List._∷_ 73 (List._∷_ 110 (List._∷_ 115 (List._∷_ 101
+      (List._∷_ 114 (List._∷_ 116 (List._∷_ 101 (List._∷_ 100 List.[])))))))))))))))))))))))))) (Syntax.ttcons (Syntax.tcons (Syntax.tyStruct (List._∷_ 103 (List._∷_ 114 (List._∷_
+      101 (List._∷_ 101 (List._∷_ 110 (List._∷_ 119 (List._∷_ 97 (List._∷_ 108 (List._∷_ 100 (List._∷_ 95 (List._∷_ 107 (List._∷_ 104 (List._∷_ 97 (List._∷_ 110 (List._∷_ 110
+      (List._∷_ 97 (List._∷_ 95 (List._∷_ 115 (List._∷_ 116 (List._∷_ 101 (List._∷_ 112 (List._∷_ 115 (List._∷_ 58 (List._∷_ 58 (List._∷_ 83 (List._∷_ 116 (List._∷_ 114 (List._∷_ 101
+      (List._∷_ 97 (List._∷_ 109 List.[])))))))))))))))))))))))))))))) (Syntax.tcons (Syntax.tyStruct (List._∷_ 102 (List._∷_ 114 (List._∷_ 97 (List._∷_ 99 (List._∷_ 116 (List._∷_
+      105 (List._∷_ 111 (List._∷_ 110 (List._∷_ 58 (List._∷_ 58 (List._∷_ 70 (List._∷_ 114 (List._∷_ 97 (List._∷_ 99 (List._∷_ 116 (List._∷_ 105 (List._∷_ 111 (List._∷_ 110
+      List.[])))))))))))))))))) (Syntax.tcons (Syntax.tyInt Syntax.w32) (Syntax.tcons (Syntax.tyInt Syntax.w32) Syntax.tnil))) (Syntax.tcons (Syntax.tyInt Syntax.w32) (Syntax.tcons
+      (Syntax.tyInt Syntax.w32) Syntax.tnil)))) Syntax.tnil) (Syntax.ttcons (Syntax.tcons (Syntax.tyEnum (List._∷_ 114 (List._∷_ 101 (List._∷_ 102 (List._∷_ 117 (List._∷_ 115
+      (List._∷_ 97 (List._∷_ 108 (List._∷_ 58 (List._∷_ 58 (List._∷_ 82 (List._∷_ 101 (List._∷_ 102 (List._∷_ 117 (List._∷_ 115 (List._∷_ 97 (List._∷_ 108 List.[]))))))))))))))))
+      (Syntax.ttcons Syntax.tnil (Syntax.ttcons Syntax.tnil (Syntax.ttcons Syntax.tnil (Syntax.ttcons Syntax.tnil (Syntax.ttcons Syntax.tnil (Syntax.ttcons Syntax.tnil (Syntax.ttcons
+      Syntax.tnil (Syntax.ttcons Syntax.tnil (Syntax.ttcons Syntax.tnil (Syntax.ttcons Syntax.tnil (Syntax.ttcons Syntax.tnil (Syntax.ttcons Syntax.tnil Syntax.ttnil)))))))))))))
+      Syntax.tnil) Syntax.ttnil))),
+) (List._∷_ (1, Rows'.whole (Declared'.row Stream.the-type)) (List._∷_ (
+  2,
+  Mut.mslice Of.R (Syntax.tyRef (Syntax.named 0) Syntax.mut Of.tyBy) 0,
+) (List._∷_ (3, Rows'.sc-here (Row.sInt Syntax.w32)) (List._∷_ (4, Rows'.sc-here (Row.sInt Syntax.w64)) (List._∷_ (5, Rows'.sc-here (Row.sInt Syntax.w64)) (List._∷_ (
+  6,
+  Rows'.whole (Array'.Array (Array'.Array (Referent.rtF (Referent.fInt Syntax.w32)) 3) 256),
+) (List._∷_ (
+  7,
+  Rows'.any-gone (Syntax.tyArray (Syntax.tyArray (Syntax.tyInt
+      Syntax.w32) 3) 4096),
+) (List._∷_ (8, Rows'.any-gone Syntax.tyBool) (List._∷_ (
+  9,
+  Rows'.any-gone (Syntax.tyEnum (List._∷_ 114 (List._∷_ 101 (List._∷_ 102 (List._∷_ 117
+      (List._∷_ 115 (List._∷_ 97 (List._∷_ 108 (List._∷_ 58 (List._∷_ 58 (List._∷_ 82 (List._∷_ 101 (List._∷_ 102 (List._∷_ 117 (List._∷_ 115 (List._∷_ 97 (List._∷_ 108
+      List.[])))))))))))))))) (Syntax.ttcons Syntax.tnil (Syntax.ttcons Syntax.tnil (Syntax.ttcons Syntax.tnil (Syntax.ttcons Syntax.tnil (Syntax.ttcons Syntax.tnil (Syntax.ttcons
+      Syntax.tnil (Syntax.ttcons Syntax.tnil (Syntax.ttcons Syntax.tnil (Syntax.ttcons Syntax.tnil (Syntax.ttcons Syntax.tnil (Syntax.ttcons Syntax.tnil (Syntax.ttcons Syntax.tnil
+      Syntax.ttnil))))))))))))),
+) (List._∷_ (10, Rows.arrF (Referent.rtF (Referent.fInt Syntax.w32)) 3 0) (List._∷_ (
+  11,
+  Rows'.any-gone (Syntax.tyRef Syntax.erased Syntax.mut
+      Of.tyBy),
+) (List._∷_ (
+  12,
+  Rows'.any-gone (Syntax.tyStruct (List._∷_ 38 (List._∷_ 91 (List._∷_ 93 List.[]))) (Syntax.tcons (Syntax.tyRef Syntax.erased Syntax.mut Of.tyBy)
+      (Syntax.tcons (Syntax.tyInt Syntax.w64) Syntax.tnil))),
+) (List._∷_ (
+  13,
+  Rows'.any-gone (Syntax.tyRef Syntax.erased Syntax.mut (Syntax.tyArray (Syntax.tyArray (Syntax.tyInt
+      Syntax.w32) 3) 256)),
+) (List._∷_ (
+  14,
+  Rows'.any-gone (Syntax.tyStruct (List._∷_ 38 (List._∷_ 91 (List._∷_ 93 List.[]))) (Syntax.tcons (Syntax.tyRef Syntax.erased Syntax.mut
+      (Syntax.tyArray (Syntax.tyInt Syntax.w32) 3)) (Syntax.tcons (Syntax.tyInt Syntax.w64) Syntax.tnil))),
+) (List._∷_ (
+  15,
+  Rows'.any-gone (Syntax.tyArray (Syntax.tyInt Syntax.w32)
+      3),
+) List.[])))))))))))))))
+
+abbrev pub t16 : List.List Row.Entry
+t16 = List._∷_ (
+  0,
+  Rows'.any-gone (Syntax.tyEnum (List._∷_ 103 (List._∷_ 114 (List._∷_ 101 (List._∷_ 101 (List._∷_ 110 (List._∷_ 119 (List._∷_ 97 (List._∷_ 108 (List._∷_ 100
+      (List._∷_ 95 (List._∷_ 107 (List._∷_ 104 (List._∷_ 97 (List._∷_ 110 (List._∷_ 110 (List._∷_ 97 (List._∷_ 58 (List._∷_ 58 (List._∷_ 73 (List._∷_ 110 (List._∷_ 115 (List._∷_ 101
+      (List._∷_ 114 (List._∷_ 116 (List._∷_ 101 (List._∷_ 100 List.[])))))))))))))))))))))))))) (Syntax.ttcons (Syntax.tcons (Syntax.tyStruct (List._∷_ 103 (List._∷_ 114 (List._∷_
+      101 (List._∷_ 101 (List._∷_ 110 (List._∷_ 119 (List._∷_ 97 (List._∷_ 108 (List._∷_ 100 (List._∷_ 95 (List._∷_ 107 (List._∷_ 104 (List._∷_ 97 (List._∷_ 110 (List._∷_ 110
+      (List._∷_ 97 (List._∷_ 95 (List._∷_ 115 (List._∷_ 116 (List._∷_ 101 (List._∷_ 112 (List._∷_ 115 (List._∷_ 58 (List._∷_ 58 (List._∷_ 83 (List._∷_ 116 (List._∷_ 114 (List._∷_ 101
+      (List._∷_ 97 (List._∷_ 109 List.[])))))))))))))))))))))))))))))) (Syntax.tcons (Syntax.tyStruct (List._∷_ 102 (List._∷_ 114 (List._∷_ 97 (List._∷_ 99 (List._∷_ 116 (List._∷_
+      105 (List._∷_ 111 (List._∷_ 110 (List._∷_ 58 (List._∷_ 58 (List._∷_ 70 (List._∷_ 114 (List._∷_ 97 (List._∷_ 99 (List._∷_ 116 (List._∷_ 105 (List._∷_ 111 (List._∷_ 110
+      List.[])))))))))))))))))) (Syntax.tcons (Syntax.tyInt Syntax.w32) (Syntax.tcons (Syntax.tyInt Syntax.w32) Syntax.tnil))) (Syntax.tcons (Syntax.tyInt Syntax.w32) (Syntax.tcons
+      (Syntax.tyInt Syntax.w32) Syntax.tnil)))) Syntax.tnil) (Syntax.ttcons (Syntax.tcons (Syntax.tyEnum (List._∷_ 114 (List._∷_ 101 (List._∷_ 102 (List._∷_ 117 (List._∷_ 115
+      (List._∷_ 97 (List._∷_ 108 (List._∷_ 58 (List._∷_ 58 (List._∷_ 82 (List._∷_ 101 (List._∷_ 102 (List._∷_ 117 (List._∷_ 115 (List._∷_ 97 (List._∷_ 108 List.[]))))))))))))))))
+      (Syntax.ttcons Syntax.tnil (Syntax.ttcons Syntax.tnil (Syntax.ttcons Syntax.tnil (Syntax.ttcons Syntax.tnil (Syntax.ttcons Syntax.tnil (Syntax.ttcons Syntax.tnil (Syntax.ttcons
+      Syntax.tnil (Syntax.ttcons Syntax.tnil (Syntax.ttcons Syntax.tnil (Syntax.ttcons Syntax.tnil (Syntax.ttcons Syntax.tnil (Syntax.ttcons Syntax.tnil Syntax.ttnil)))))))))))))
+      Syntax.tnil) Syntax.ttnil))),
+) (List._∷_ (1, Rows'.whole (Declared'.row Stream.the-type)) (List._∷_ (
+  2,
+  Mut.mslice Of.R (Syntax.tyRef (Syntax.named 0) Syntax.mut Of.tyBy) 0,
+) (List._∷_ (3, Rows'.sc-here (Row.sInt Syntax.w32)) (List._∷_ (4, Rows'.sc-here (Row.sInt Syntax.w64)) (List._∷_ (5, Rows'.sc-here (Row.sInt Syntax.w64)) (List._∷_ (
+  6,
+  Rows.arrF (Array'.Array (Referent.rtF (Referent.fInt Syntax.w32)) 3) 256 0,
+) (List._∷_ (
+  7,
+  Rows'.any-gone (Syntax.tyArray (Syntax.tyArray (Syntax.tyInt Syntax.w32) 3) 4096),
+) (List._∷_ (8, Rows'.any-gone Syntax.tyBool) (List._∷_ (
+  9,
+  Rows'.any-gone (Syntax.tyEnum (List._∷_ 114 (List._∷_ 101 (List._∷_ 102 (List._∷_ 117 (List._∷_ 115 (List._∷_ 97
+      (List._∷_ 108 (List._∷_ 58 (List._∷_ 58 (List._∷_ 82 (List._∷_ 101 (List._∷_ 102 (List._∷_ 117 (List._∷_ 115 (List._∷_ 97 (List._∷_ 108 List.[])))))))))))))))) (Syntax.ttcons
+      Syntax.tnil (Syntax.ttcons Syntax.tnil (Syntax.ttcons Syntax.tnil (Syntax.ttcons Syntax.tnil (Syntax.ttcons Syntax.tnil (Syntax.ttcons Syntax.tnil (Syntax.ttcons Syntax.tnil
+      (Syntax.ttcons Syntax.tnil (Syntax.ttcons Syntax.tnil (Syntax.ttcons Syntax.tnil (Syntax.ttcons Syntax.tnil (Syntax.ttcons Syntax.tnil Syntax.ttnil))))))))))))),
+) (List._∷_
+    (10, Rows.arrF (Referent.rtF (Referent.fInt Syntax.w32)) 3 0) (List._∷_ (11, Rows'.any-gone (Syntax.tyRef Syntax.erased Syntax.mut Of.tyBy)) (List._∷_ (
       12,
       Rows'.any-gone
           (Syntax.tyStruct (List._∷_ 38 (List._∷_ 91 (List._∷_ 93 List.[]))) (Syntax.tcons (Syntax.tyRef Syntax.erased Syntax.mut Of.tyBy) (Syntax.tcons (Syntax.tyInt Syntax.w64)
@@ -987,160 +1134,6 @@ t13 = List._∷_ (
           3)) (Syntax.tcons (Syntax.tyInt Syntax.w64) Syntax.tnil))),
     ) (List._∷_ (15, Rows'.any-gone (Syntax.tyArray (Syntax.tyInt Syntax.w32) 3)) List.[])))))))))))))))
 
-abbrev pub t14 : List.List Row.Entry
-t14 = List._∷_ (
-  0,
-  Rows'.any-gone (Syntax.tyEnum (List._∷_ 103 (List._∷_ 114 (List._∷_ 101 (List._∷_ 101 (List._∷_ 110 (List._∷_ 119 (List._∷_ 97 (List._∷_ 108 (List._∷_ 100
-      (List._∷_ 95 (List._∷_ 107 (List._∷_ 104 (List._∷_ 97 (List._∷_ 110 (List._∷_ 110 (List._∷_ 97 (List._∷_ 58 (List._∷_ 58 (List._∷_ 73 (List._∷_ 110 (List._∷_ 115 (List._∷_ 101
-      (List._∷_ 114 (List._∷_ 116 (List._∷_ 101 (List._∷_ 100 List.[])))))))))))))))))))))))))) (Syntax.ttcons (Syntax.tcons (Syntax.tyStruct (List._∷_ 103 (List._∷_ 114 (List._∷_
-      101 (List._∷_ 101 (List._∷_ 110 (List._∷_ 119 (List._∷_ 97 (List._∷_ 108 (List._∷_ 100 (List._∷_ 95 (List._∷_ 107 (List._∷_ 104 (List._∷_ 97 (List._∷_ 110 (List._∷_ 110
-      (List._∷_ 97 (List._∷_ 58 (List._∷_ 58 (List._∷_ 83 (List._∷_ 116 (List._∷_ 114 (List._∷_ 101 (List._∷_ 97 (List._∷_ 109 List.[])))))))))))))))))))))))) (Syntax.tcons
-      (Syntax.tyStruct (List._∷_ 102 (List._∷_ 114 (List._∷_ 97 (List._∷_ 99 (List._∷_ 116 (List._∷_ 105 (List._∷_ 111 (List._∷_ 110 (List._∷_ 58 (List._∷_ 58 (List._∷_ 70 (List._∷_
-      114 (List._∷_ 97 (List._∷_ 99 (List._∷_ 116 (List._∷_ 105 (List._∷_ 111 (List._∷_ 110 List.[])))))))))))))))))) (Syntax.tcons (Syntax.tyInt Syntax.w32) (Syntax.tcons
-      (Syntax.tyInt Syntax.w32) Syntax.tnil))) (Syntax.tcons (Syntax.tyInt Syntax.w32) (Syntax.tcons (Syntax.tyInt Syntax.w32) Syntax.tnil)))) Syntax.tnil) (Syntax.ttcons
-      (Syntax.tcons (Syntax.tyEnum (List._∷_ 114 (List._∷_ 101 (List._∷_ 102 (List._∷_ 117 (List._∷_ 115 (List._∷_ 97 (List._∷_ 108 (List._∷_ 58 (List._∷_ 58 (List._∷_ 82 (List._∷_
-      101 (List._∷_ 102 (List._∷_ 117 (List._∷_ 115 (List._∷_ 97 (List._∷_ 108 List.[])))))))))))))))) (Syntax.ttcons Syntax.tnil (Syntax.ttcons Syntax.tnil (Syntax.ttcons
-      Syntax.tnil (Syntax.ttcons Syntax.tnil (Syntax.ttcons Syntax.tnil (Syntax.ttcons Syntax.tnil (Syntax.ttcons Syntax.tnil (Syntax.ttcons Syntax.tnil (Syntax.ttcons Syntax.tnil
-      (Syntax.ttcons Syntax.tnil (Syntax.ttcons Syntax.tnil (Syntax.ttcons Syntax.tnil Syntax.ttnil))))))))))))) Syntax.tnil) Syntax.ttnil))),
-) (List._∷_ (
-  1,
-  Rows'.whole
-      (Declared'.row Stream.the-type),
-) (List._∷_ (2, Mut.mslice Of.R (Syntax.tyRef (Syntax.named 0) Syntax.mut Of.tyBy) 0) (List._∷_ (3, Rows'.sc-here (Row.sInt Syntax.w32))
-    (List._∷_ (4, Rows'.sc-here (Row.sInt Syntax.w64)) (List._∷_ (5, Rows'.sc-here (Row.sInt Syntax.w64)) (List._∷_ (
-      6,
-      Rows'.any-gone (Syntax.tyArray (Syntax.tyArray
-          (Syntax.tyInt Syntax.w32) 3) 256),
-    ) (List._∷_ (7, Rows'.any-gone (Syntax.tyArray (Syntax.tyArray (Syntax.tyInt Syntax.w32) 3) 4096)) (List._∷_ (
-      8,
-      Rows'.any-gone
-          Syntax.tyBool,
-    ) (List._∷_ (
-      9,
-      Rows'.any-gone (Syntax.tyEnum (List._∷_ 114 (List._∷_ 101 (List._∷_ 102 (List._∷_ 117 (List._∷_ 115 (List._∷_ 97 (List._∷_ 108 (List._∷_ 58
-          (List._∷_ 58 (List._∷_ 82 (List._∷_ 101 (List._∷_ 102 (List._∷_ 117 (List._∷_ 115 (List._∷_ 97 (List._∷_ 108 List.[])))))))))))))))) (Syntax.ttcons Syntax.tnil (Syntax.ttcons
-          Syntax.tnil (Syntax.ttcons Syntax.tnil (Syntax.ttcons Syntax.tnil (Syntax.ttcons Syntax.tnil (Syntax.ttcons Syntax.tnil (Syntax.ttcons Syntax.tnil (Syntax.ttcons Syntax.tnil
-          (Syntax.ttcons Syntax.tnil (Syntax.ttcons Syntax.tnil (Syntax.ttcons Syntax.tnil (Syntax.ttcons Syntax.tnil Syntax.ttnil))))))))))))),
-    ) (List._∷_ (
-      10,
-      Rows.arrF (Referent.rtF
-          (Referent.fInt Syntax.w32)) 3 0,
-    ) (List._∷_ (11, Rows'.any-gone (Syntax.tyRef Syntax.erased Syntax.mut Of.tyBy)) (List._∷_ (
-      12,
-      Rows'.any-gone (Syntax.tyStruct (List._∷_ 38
-          (List._∷_ 91 (List._∷_ 93 List.[]))) (Syntax.tcons (Syntax.tyRef Syntax.erased Syntax.mut Of.tyBy) (Syntax.tcons (Syntax.tyInt Syntax.w64) Syntax.tnil))),
-    ) (List._∷_ (
-      13,
-      Rows'.any-gone (Syntax.tyRef Syntax.erased Syntax.mut (Syntax.tyArray (Syntax.tyArray (Syntax.tyInt Syntax.w32) 3) 256)),
-    ) (List._∷_ (
-      14,
-      Rows'.any-gone (Syntax.tyStruct
-          (List._∷_ 38 (List._∷_ 91 (List._∷_ 93 List.[]))) (Syntax.tcons (Syntax.tyRef Syntax.erased Syntax.mut (Syntax.tyArray (Syntax.tyInt Syntax.w32) 3)) (Syntax.tcons (Syntax.tyInt
-          Syntax.w64) Syntax.tnil))),
-    ) (List._∷_ (15, Rows'.any-gone (Syntax.tyArray (Syntax.tyInt Syntax.w32) 3)) List.[])))))))))))))))
-
-abbrev pub t15 : List.List Row.Entry
-t15 = List._∷_ (
-  0,
-  Rows'.any-gone (Syntax.tyEnum (List._∷_ 103 (List._∷_ 114 (List._∷_ 101 (List._∷_ 101 (List._∷_ 110 (List._∷_ 119 (List._∷_ 97 (List._∷_ 108 (List._∷_ 100
-      (List._∷_ 95 (List._∷_ 107 (List._∷_ 104 (List._∷_ 97 (List._∷_ 110 (List._∷_ 110 (List._∷_ 97 (List._∷_ 58 (List._∷_ 58 (List._∷_ 73 (List._∷_ 110 (List._∷_ 115 (List._∷_ 101
-      (List._∷_ 114 (List._∷_ 116 (List._∷_ 101 (List._∷_ 100 List.[])))))))))))))))))))))))))) (Syntax.ttcons (Syntax.tcons (Syntax.tyStruct (List._∷_ 103 (List._∷_ 114 (List._∷_
-      101 (List._∷_ 101 (List._∷_ 110 (List._∷_ 119 (List._∷_ 97 (List._∷_ 108 (List._∷_ 100 (List._∷_ 95 (List._∷_ 107 (List._∷_ 104 (List._∷_ 97 (List._∷_ 110 (List._∷_ 110
-      (List._∷_ 97 (List._∷_ 58 (List._∷_ 58 (List._∷_ 83 (List._∷_ 116 (List._∷_ 114 (List._∷_ 101 (List._∷_ 97 (List._∷_ 109 List.[])))))))))))))))))))))))) (Syntax.tcons
-      (Syntax.tyStruct (List._∷_ 102 (List._∷_ 114 (List._∷_ 97 (List._∷_ 99 (List._∷_ 116 (List._∷_ 105 (List._∷_ 111 (List._∷_ 110 (List._∷_ 58 (List._∷_ 58 (List._∷_ 70 (List._∷_
-      114 (List._∷_ 97 (List._∷_ 99 (List._∷_ 116 (List._∷_ 105 (List._∷_ 111 (List._∷_ 110 List.[])))))))))))))))))) (Syntax.tcons (Syntax.tyInt Syntax.w32) (Syntax.tcons
-      (Syntax.tyInt Syntax.w32) Syntax.tnil))) (Syntax.tcons (Syntax.tyInt Syntax.w32) (Syntax.tcons (Syntax.tyInt Syntax.w32) Syntax.tnil)))) Syntax.tnil) (Syntax.ttcons
-      (Syntax.tcons (Syntax.tyEnum (List._∷_ 114 (List._∷_ 101 (List._∷_ 102 (List._∷_ 117 (List._∷_ 115 (List._∷_ 97 (List._∷_ 108 (List._∷_ 58 (List._∷_ 58 (List._∷_ 82 (List._∷_
-      101 (List._∷_ 102 (List._∷_ 117 (List._∷_ 115 (List._∷_ 97 (List._∷_ 108 List.[])))))))))))))))) (Syntax.ttcons Syntax.tnil (Syntax.ttcons Syntax.tnil (Syntax.ttcons
-      Syntax.tnil (Syntax.ttcons Syntax.tnil (Syntax.ttcons Syntax.tnil (Syntax.ttcons Syntax.tnil (Syntax.ttcons Syntax.tnil (Syntax.ttcons Syntax.tnil (Syntax.ttcons Syntax.tnil
-      (Syntax.ttcons Syntax.tnil (Syntax.ttcons Syntax.tnil (Syntax.ttcons Syntax.tnil Syntax.ttnil))))))))))))) Syntax.tnil) Syntax.ttnil))),
-) (List._∷_ (
-  1,
-  Rows'.whole
-      (Declared'.row Stream.the-type),
-) (List._∷_ (2, Mut.mslice Of.R (Syntax.tyRef (Syntax.named 0) Syntax.mut Of.tyBy) 0) (List._∷_ (3, Rows'.sc-here (Row.sInt Syntax.w32))
-    (List._∷_ (4, Rows'.sc-here (Row.sInt Syntax.w64)) (List._∷_ (5, Rows'.sc-here (Row.sInt Syntax.w64)) (List._∷_ (
-      6,
-      Rows'.whole (Array'.Array (Array'.Array (Referent.rtF
-          (Referent.fInt Syntax.w32)) 3) 256),
-    ) (List._∷_ (7, Rows'.any-gone (Syntax.tyArray (Syntax.tyArray (Syntax.tyInt Syntax.w32) 3) 4096)) (List._∷_ (
-      8,
-      Rows'.any-gone
-          Syntax.tyBool,
-    ) (List._∷_ (
-      9,
-      Rows'.any-gone (Syntax.tyEnum (List._∷_ 114 (List._∷_ 101 (List._∷_ 102 (List._∷_ 117 (List._∷_ 115 (List._∷_ 97 (List._∷_ 108 (List._∷_ 58
-          (List._∷_ 58 (List._∷_ 82 (List._∷_ 101 (List._∷_ 102 (List._∷_ 117 (List._∷_ 115 (List._∷_ 97 (List._∷_ 108 List.[])))))))))))))))) (Syntax.ttcons Syntax.tnil (Syntax.ttcons
-          Syntax.tnil (Syntax.ttcons Syntax.tnil (Syntax.ttcons Syntax.tnil (Syntax.ttcons Syntax.tnil (Syntax.ttcons Syntax.tnil (Syntax.ttcons Syntax.tnil (Syntax.ttcons Syntax.tnil
-          (Syntax.ttcons Syntax.tnil (Syntax.ttcons Syntax.tnil (Syntax.ttcons Syntax.tnil (Syntax.ttcons Syntax.tnil Syntax.ttnil))))))))))))),
-    ) (List._∷_ (
-      10,
-      Rows.arrF (Referent.rtF
-          (Referent.fInt Syntax.w32)) 3 0,
-    ) (List._∷_ (11, Rows'.any-gone (Syntax.tyRef Syntax.erased Syntax.mut Of.tyBy)) (List._∷_ (
-      12,
-      Rows'.any-gone (Syntax.tyStruct (List._∷_ 38
-          (List._∷_ 91 (List._∷_ 93 List.[]))) (Syntax.tcons (Syntax.tyRef Syntax.erased Syntax.mut Of.tyBy) (Syntax.tcons (Syntax.tyInt Syntax.w64) Syntax.tnil))),
-    ) (List._∷_ (
-      13,
-      Rows'.any-gone (Syntax.tyRef Syntax.erased Syntax.mut (Syntax.tyArray (Syntax.tyArray (Syntax.tyInt Syntax.w32) 3) 256)),
-    ) (List._∷_ (
-      14,
-      Rows'.any-gone (Syntax.tyStruct
-          (List._∷_ 38 (List._∷_ 91 (List._∷_ 93 List.[]))) (Syntax.tcons (Syntax.tyRef Syntax.erased Syntax.mut (Syntax.tyArray (Syntax.tyInt Syntax.w32) 3)) (Syntax.tcons (Syntax.tyInt
-          Syntax.w64) Syntax.tnil))),
-    ) (List._∷_ (15, Rows'.any-gone (Syntax.tyArray (Syntax.tyInt Syntax.w32) 3)) List.[])))))))))))))))
-
-abbrev pub t16 : List.List Row.Entry
-t16 = List._∷_ (
-  0,
-  Rows'.any-gone (Syntax.tyEnum (List._∷_ 103 (List._∷_ 114 (List._∷_ 101 (List._∷_ 101 (List._∷_ 110 (List._∷_ 119 (List._∷_ 97 (List._∷_ 108 (List._∷_ 100
-      (List._∷_ 95 (List._∷_ 107 (List._∷_ 104 (List._∷_ 97 (List._∷_ 110 (List._∷_ 110 (List._∷_ 97 (List._∷_ 58 (List._∷_ 58 (List._∷_ 73 (List._∷_ 110 (List._∷_ 115 (List._∷_ 101
-      (List._∷_ 114 (List._∷_ 116 (List._∷_ 101 (List._∷_ 100 List.[])))))))))))))))))))))))))) (Syntax.ttcons (Syntax.tcons (Syntax.tyStruct (List._∷_ 103 (List._∷_ 114 (List._∷_
-      101 (List._∷_ 101 (List._∷_ 110 (List._∷_ 119 (List._∷_ 97 (List._∷_ 108 (List._∷_ 100 (List._∷_ 95 (List._∷_ 107 (List._∷_ 104 (List._∷_ 97 (List._∷_ 110 (List._∷_ 110
-      (List._∷_ 97 (List._∷_ 58 (List._∷_ 58 (List._∷_ 83 (List._∷_ 116 (List._∷_ 114 (List._∷_ 101 (List._∷_ 97 (List._∷_ 109 List.[])))))))))))))))))))))))) (Syntax.tcons
-      (Syntax.tyStruct (List._∷_ 102 (List._∷_ 114 (List._∷_ 97 (List._∷_ 99 (List._∷_ 116 (List._∷_ 105 (List._∷_ 111 (List._∷_ 110 (List._∷_ 58 (List._∷_ 58 (List._∷_ 70 (List._∷_
-      114 (List._∷_ 97 (List._∷_ 99 (List._∷_ 116 (List._∷_ 105 (List._∷_ 111 (List._∷_ 110 List.[])))))))))))))))))) (Syntax.tcons (Syntax.tyInt Syntax.w32) (Syntax.tcons
-      (Syntax.tyInt Syntax.w32) Syntax.tnil))) (Syntax.tcons (Syntax.tyInt Syntax.w32) (Syntax.tcons (Syntax.tyInt Syntax.w32) Syntax.tnil)))) Syntax.tnil) (Syntax.ttcons
-      (Syntax.tcons (Syntax.tyEnum (List._∷_ 114 (List._∷_ 101 (List._∷_ 102 (List._∷_ 117 (List._∷_ 115 (List._∷_ 97 (List._∷_ 108 (List._∷_ 58 (List._∷_ 58 (List._∷_ 82 (List._∷_
-      101 (List._∷_ 102 (List._∷_ 117 (List._∷_ 115 (List._∷_ 97 (List._∷_ 108 List.[])))))))))))))))) (Syntax.ttcons Syntax.tnil (Syntax.ttcons Syntax.tnil (Syntax.ttcons
-      Syntax.tnil (Syntax.ttcons Syntax.tnil (Syntax.ttcons Syntax.tnil (Syntax.ttcons Syntax.tnil (Syntax.ttcons Syntax.tnil (Syntax.ttcons Syntax.tnil (Syntax.ttcons Syntax.tnil
-      (Syntax.ttcons Syntax.tnil (Syntax.ttcons Syntax.tnil (Syntax.ttcons Syntax.tnil Syntax.ttnil))))))))))))) Syntax.tnil) Syntax.ttnil))),
-) (List._∷_ (
-  1,
-  Rows'.whole
-      (Declared'.row Stream.the-type),
-) (List._∷_ (2, Mut.mslice Of.R (Syntax.tyRef (Syntax.named 0) Syntax.mut Of.tyBy) 0) (List._∷_ (3, Rows'.sc-here (Row.sInt Syntax.w32))
-    (List._∷_ (4, Rows'.sc-here (Row.sInt Syntax.w64)) (List._∷_ (5, Rows'.sc-here (Row.sInt Syntax.w64)) (List._∷_ (
-      6,
-      Rows.arrF (Array'.Array (Referent.rtF (Referent.fInt
-          Syntax.w32)) 3) 256 0,
-    ) (List._∷_ (7, Rows'.any-gone (Syntax.tyArray (Syntax.tyArray (Syntax.tyInt Syntax.w32) 3) 4096)) (List._∷_ (8, Rows'.any-gone Syntax.tyBool)
-    (List._∷_ (
-      9,
-      Rows'.any-gone (Syntax.tyEnum (List._∷_ 114 (List._∷_ 101 (List._∷_ 102 (List._∷_ 117 (List._∷_ 115 (List._∷_ 97 (List._∷_ 108 (List._∷_ 58 (List._∷_ 58
-          (List._∷_ 82 (List._∷_ 101 (List._∷_ 102 (List._∷_ 117 (List._∷_ 115 (List._∷_ 97 (List._∷_ 108 List.[])))))))))))))))) (Syntax.ttcons Syntax.tnil (Syntax.ttcons Syntax.tnil
-          (Syntax.ttcons Syntax.tnil (Syntax.ttcons Syntax.tnil (Syntax.ttcons Syntax.tnil (Syntax.ttcons Syntax.tnil (Syntax.ttcons Syntax.tnil (Syntax.ttcons Syntax.tnil (Syntax.ttcons
-          Syntax.tnil (Syntax.ttcons Syntax.tnil (Syntax.ttcons Syntax.tnil (Syntax.ttcons Syntax.tnil Syntax.ttnil))))))))))))),
-    ) (List._∷_ (
-      10,
-      Rows.arrF (Referent.rtF (Referent.fInt
-          Syntax.w32)) 3 0,
-    ) (List._∷_ (11, Rows'.any-gone (Syntax.tyRef Syntax.erased Syntax.mut Of.tyBy)) (List._∷_ (
-      12,
-      Rows'.any-gone (Syntax.tyStruct (List._∷_ 38 (List._∷_ 91
-          (List._∷_ 93 List.[]))) (Syntax.tcons (Syntax.tyRef Syntax.erased Syntax.mut Of.tyBy) (Syntax.tcons (Syntax.tyInt Syntax.w64) Syntax.tnil))),
-    ) (List._∷_ (
-      13,
-      Rows'.any-gone
-          (Syntax.tyRef Syntax.erased Syntax.mut (Syntax.tyArray (Syntax.tyArray (Syntax.tyInt Syntax.w32) 3) 256)),
-    ) (List._∷_ (
-      14,
-      Rows'.any-gone (Syntax.tyStruct (List._∷_ 38
-          (List._∷_ 91 (List._∷_ 93 List.[]))) (Syntax.tcons (Syntax.tyRef Syntax.erased Syntax.mut (Syntax.tyArray (Syntax.tyInt Syntax.w32) 3)) (Syntax.tcons (Syntax.tyInt Syntax.w64)
-          Syntax.tnil))),
-    ) (List._∷_ (15, Rows'.any-gone (Syntax.tyArray (Syntax.tyInt Syntax.w32) 3)) List.[])))))))))))))))
-
 abbrev pub t17 : List.List Row.Entry
 t17 = List._∷_ (
   0,
@@ -1148,47 +1141,42 @@ t17 = List._∷_ (
       (List._∷_ 95 (List._∷_ 107 (List._∷_ 104 (List._∷_ 97 (List._∷_ 110 (List._∷_ 110 (List._∷_ 97 (List._∷_ 58 (List._∷_ 58 (List._∷_ 73 (List._∷_ 110 (List._∷_ 115 (List._∷_ 101
       (List._∷_ 114 (List._∷_ 116 (List._∷_ 101 (List._∷_ 100 List.[])))))))))))))))))))))))))) (Syntax.ttcons (Syntax.tcons (Syntax.tyStruct (List._∷_ 103 (List._∷_ 114 (List._∷_
       101 (List._∷_ 101 (List._∷_ 110 (List._∷_ 119 (List._∷_ 97 (List._∷_ 108 (List._∷_ 100 (List._∷_ 95 (List._∷_ 107 (List._∷_ 104 (List._∷_ 97 (List._∷_ 110 (List._∷_ 110
-      (List._∷_ 97 (List._∷_ 58 (List._∷_ 58 (List._∷_ 83 (List._∷_ 116 (List._∷_ 114 (List._∷_ 101 (List._∷_ 97 (List._∷_ 109 List.[])))))))))))))))))))))))) (Syntax.tcons
-      (Syntax.tyStruct (List._∷_ 102 (List._∷_ 114 (List._∷_ 97 (List._∷_ 99 (List._∷_ 116 (List._∷_ 105 (List._∷_ 111 (List._∷_ 110 (List._∷_ 58 (List._∷_ 58 (List._∷_ 70 (List._∷_
-      114 (List._∷_ 97 (List._∷_ 99 (List._∷_ 116 (List._∷_ 105 (List._∷_ 111 (List._∷_ 110 List.[])))))))))))))))))) (Syntax.tcons (Syntax.tyInt Syntax.w32) (Syntax.tcons
-      (Syntax.tyInt Syntax.w32) Syntax.tnil))) (Syntax.tcons (Syntax.tyInt Syntax.w32) (Syntax.tcons (Syntax.tyInt Syntax.w32) Syntax.tnil)))) Syntax.tnil) (Syntax.ttcons
-      (Syntax.tcons (Syntax.tyEnum (List._∷_ 114 (List._∷_ 101 (List._∷_ 102 (List._∷_ 117 (List._∷_ 115 (List._∷_ 97 (List._∷_ 108 (List._∷_ 58 (List._∷_ 58 (List._∷_ 82 (List._∷_
-      101 (List._∷_ 102 (List._∷_ 117 (List._∷_ 115 (List._∷_ 97 (List._∷_ 108 List.[])))))))))))))))) (Syntax.ttcons Syntax.tnil (Syntax.ttcons Syntax.tnil (Syntax.ttcons
-      Syntax.tnil (Syntax.ttcons Syntax.tnil (Syntax.ttcons Syntax.tnil (Syntax.ttcons Syntax.tnil (Syntax.ttcons Syntax.tnil (Syntax.ttcons Syntax.tnil (Syntax.ttcons Syntax.tnil
-      (Syntax.ttcons Syntax.tnil (Syntax.ttcons Syntax.tnil (Syntax.ttcons Syntax.tnil Syntax.ttnil))))))))))))) Syntax.tnil) Syntax.ttnil))),
+      (List._∷_ 97 (List._∷_ 95 (List._∷_ 115 (List._∷_ 116 (List._∷_ 101 (List._∷_ 112 (List._∷_ 115 (List._∷_ 58 (List._∷_ 58 (List._∷_ 83 (List._∷_ 116 (List._∷_ 114 (List._∷_ 101
+      (List._∷_ 97 (List._∷_ 109 List.[])))))))))))))))))))))))))))))) (Syntax.tcons (Syntax.tyStruct (List._∷_ 102 (List._∷_ 114 (List._∷_ 97 (List._∷_ 99 (List._∷_ 116 (List._∷_
+      105 (List._∷_ 111 (List._∷_ 110 (List._∷_ 58 (List._∷_ 58 (List._∷_ 70 (List._∷_ 114 (List._∷_ 97 (List._∷_ 99 (List._∷_ 116 (List._∷_ 105 (List._∷_ 111 (List._∷_ 110
+      List.[])))))))))))))))))) (Syntax.tcons (Syntax.tyInt Syntax.w32) (Syntax.tcons (Syntax.tyInt Syntax.w32) Syntax.tnil))) (Syntax.tcons (Syntax.tyInt Syntax.w32) (Syntax.tcons
+      (Syntax.tyInt Syntax.w32) Syntax.tnil)))) Syntax.tnil) (Syntax.ttcons (Syntax.tcons (Syntax.tyEnum (List._∷_ 114 (List._∷_ 101 (List._∷_ 102 (List._∷_ 117 (List._∷_ 115
+      (List._∷_ 97 (List._∷_ 108 (List._∷_ 58 (List._∷_ 58 (List._∷_ 82 (List._∷_ 101 (List._∷_ 102 (List._∷_ 117 (List._∷_ 115 (List._∷_ 97 (List._∷_ 108 List.[]))))))))))))))))
+      (Syntax.ttcons Syntax.tnil (Syntax.ttcons Syntax.tnil (Syntax.ttcons Syntax.tnil (Syntax.ttcons Syntax.tnil (Syntax.ttcons Syntax.tnil (Syntax.ttcons Syntax.tnil (Syntax.ttcons
+      Syntax.tnil (Syntax.ttcons Syntax.tnil (Syntax.ttcons Syntax.tnil (Syntax.ttcons Syntax.tnil (Syntax.ttcons Syntax.tnil (Syntax.ttcons Syntax.tnil Syntax.ttnil)))))))))))))
+      Syntax.tnil) Syntax.ttnil))),
+) (List._∷_ (1, Rows'.whole (Declared'.row Stream.the-type)) (List._∷_ (
+  2,
+  Mut.mslice Of.R (Syntax.tyRef (Syntax.named 0) Syntax.mut Of.tyBy) 0,
+) (List._∷_ (3, Rows'.sc-here (Row.sInt Syntax.w32)) (List._∷_ (4, Rows'.sc-here (Row.sInt Syntax.w64)) (List._∷_ (5, Rows'.sc-here (Row.sInt Syntax.w64)) (List._∷_ (
+  6,
+  Rows.arrF (Array'.Array (Referent.rtF (Referent.fInt Syntax.w32)) 3) 256 0,
 ) (List._∷_ (
-  1,
-  Rows'.whole
-      (Declared'.row Stream.the-type),
-) (List._∷_ (2, Mut.mslice Of.R (Syntax.tyRef (Syntax.named 0) Syntax.mut Of.tyBy) 0) (List._∷_ (3, Rows'.sc-here (Row.sInt Syntax.w32))
-    (List._∷_ (4, Rows'.sc-here (Row.sInt Syntax.w64)) (List._∷_ (5, Rows'.sc-here (Row.sInt Syntax.w64)) (List._∷_ (
-      6,
-      Rows.arrF (Array'.Array (Referent.rtF (Referent.fInt
-          Syntax.w32)) 3) 256 0,
-    ) (List._∷_ (7, Rows'.any-gone (Syntax.tyArray (Syntax.tyArray (Syntax.tyInt Syntax.w32) 3) 4096)) (List._∷_ (8, Rows'.any-gone Syntax.tyBool)
-    (List._∷_ (
-      9,
-      Rows'.any-gone (Syntax.tyEnum (List._∷_ 114 (List._∷_ 101 (List._∷_ 102 (List._∷_ 117 (List._∷_ 115 (List._∷_ 97 (List._∷_ 108 (List._∷_ 58 (List._∷_ 58
-          (List._∷_ 82 (List._∷_ 101 (List._∷_ 102 (List._∷_ 117 (List._∷_ 115 (List._∷_ 97 (List._∷_ 108 List.[])))))))))))))))) (Syntax.ttcons Syntax.tnil (Syntax.ttcons Syntax.tnil
-          (Syntax.ttcons Syntax.tnil (Syntax.ttcons Syntax.tnil (Syntax.ttcons Syntax.tnil (Syntax.ttcons Syntax.tnil (Syntax.ttcons Syntax.tnil (Syntax.ttcons Syntax.tnil (Syntax.ttcons
-          Syntax.tnil (Syntax.ttcons Syntax.tnil (Syntax.ttcons Syntax.tnil (Syntax.ttcons Syntax.tnil Syntax.ttnil))))))))))))),
-    ) (List._∷_ (
-      10,
-      Rows'.any-gone (Syntax.tyArray
-          (Syntax.tyInt Syntax.w32) 3),
-    ) (List._∷_ (11, Rows'.any-gone (Syntax.tyRef Syntax.erased Syntax.mut Of.tyBy)) (List._∷_ (
+  7,
+  Rows'.any-gone (Syntax.tyArray (Syntax.tyArray (Syntax.tyInt Syntax.w32) 3) 4096),
+) (List._∷_ (8, Rows'.any-gone Syntax.tyBool) (List._∷_ (
+  9,
+  Rows'.any-gone (Syntax.tyEnum (List._∷_ 114 (List._∷_ 101 (List._∷_ 102 (List._∷_ 117 (List._∷_ 115 (List._∷_ 97
+      (List._∷_ 108 (List._∷_ 58 (List._∷_ 58 (List._∷_ 82 (List._∷_ 101 (List._∷_ 102 (List._∷_ 117 (List._∷_ 115 (List._∷_ 97 (List._∷_ 108 List.[])))))))))))))))) (Syntax.ttcons
+      Syntax.tnil (Syntax.ttcons Syntax.tnil (Syntax.ttcons Syntax.tnil (Syntax.ttcons Syntax.tnil (Syntax.ttcons Syntax.tnil (Syntax.ttcons Syntax.tnil (Syntax.ttcons Syntax.tnil
+      (Syntax.ttcons Syntax.tnil (Syntax.ttcons Syntax.tnil (Syntax.ttcons Syntax.tnil (Syntax.ttcons Syntax.tnil (Syntax.ttcons Syntax.tnil Syntax.ttnil))))))))))))),
+) (List._∷_
+    (10, Rows'.any-gone (Syntax.tyArray (Syntax.tyInt Syntax.w32) 3)) (List._∷_ (11, Rows'.any-gone (Syntax.tyRef Syntax.erased Syntax.mut Of.tyBy)) (List._∷_ (
       12,
-      Rows'.any-gone (Syntax.tyStruct (List._∷_ 38
-          (List._∷_ 91 (List._∷_ 93 List.[]))) (Syntax.tcons (Syntax.tyRef Syntax.erased Syntax.mut Of.tyBy) (Syntax.tcons (Syntax.tyInt Syntax.w64) Syntax.tnil))),
-    ) (List._∷_ (
-      13,
-      Rows'.any-gone (Syntax.tyRef Syntax.erased Syntax.mut (Syntax.tyArray (Syntax.tyArray (Syntax.tyInt Syntax.w32) 3) 256)),
-    ) (List._∷_ (
-      14,
-      Rows'.any-gone (Syntax.tyStruct
-          (List._∷_ 38 (List._∷_ 91 (List._∷_ 93 List.[]))) (Syntax.tcons (Syntax.tyRef Syntax.erased Syntax.mut (Syntax.tyArray (Syntax.tyInt Syntax.w32) 3)) (Syntax.tcons (Syntax.tyInt
+      Rows'.any-gone (Syntax.tyStruct (List._∷_ 38 (List._∷_ 91 (List._∷_ 93 List.[]))) (Syntax.tcons (Syntax.tyRef Syntax.erased Syntax.mut Of.tyBy) (Syntax.tcons (Syntax.tyInt
           Syntax.w64) Syntax.tnil))),
-    ) (List._∷_ (15, Rows'.any-gone (Syntax.tyArray (Syntax.tyInt Syntax.w32) 3)) List.[])))))))))))))))
+    ) (List._∷_ (13, Rows'.any-gone (Syntax.tyRef Syntax.erased Syntax.mut (Syntax.tyArray (Syntax.tyArray (Syntax.tyInt Syntax.w32) 3) 256)))
+    (List._∷_ (
+      14,
+      Rows'.any-gone (Syntax.tyStruct (List._∷_ 38 (List._∷_ 91 (List._∷_ 93 List.[]))) (Syntax.tcons (Syntax.tyRef Syntax.erased Syntax.mut (Syntax.tyArray
+          (Syntax.tyInt Syntax.w32) 3)) (Syntax.tcons (Syntax.tyInt Syntax.w64) Syntax.tnil))),
+    ) (List._∷_ (15, Rows'.any-gone (Syntax.tyArray (Syntax.tyInt Syntax.w32) 3))
+    List.[])))))))))))))))
 
 abbrev pub t18 : List.List Row.Entry
 t18 = List._∷_ (
@@ -1197,50 +1185,55 @@ t18 = List._∷_ (
       (List._∷_ 95 (List._∷_ 107 (List._∷_ 104 (List._∷_ 97 (List._∷_ 110 (List._∷_ 110 (List._∷_ 97 (List._∷_ 58 (List._∷_ 58 (List._∷_ 73 (List._∷_ 110 (List._∷_ 115 (List._∷_ 101
       (List._∷_ 114 (List._∷_ 116 (List._∷_ 101 (List._∷_ 100 List.[])))))))))))))))))))))))))) (Syntax.ttcons (Syntax.tcons (Syntax.tyStruct (List._∷_ 103 (List._∷_ 114 (List._∷_
       101 (List._∷_ 101 (List._∷_ 110 (List._∷_ 119 (List._∷_ 97 (List._∷_ 108 (List._∷_ 100 (List._∷_ 95 (List._∷_ 107 (List._∷_ 104 (List._∷_ 97 (List._∷_ 110 (List._∷_ 110
-      (List._∷_ 97 (List._∷_ 58 (List._∷_ 58 (List._∷_ 83 (List._∷_ 116 (List._∷_ 114 (List._∷_ 101 (List._∷_ 97 (List._∷_ 109 List.[])))))))))))))))))))))))) (Syntax.tcons
-      (Syntax.tyStruct (List._∷_ 102 (List._∷_ 114 (List._∷_ 97 (List._∷_ 99 (List._∷_ 116 (List._∷_ 105 (List._∷_ 111 (List._∷_ 110 (List._∷_ 58 (List._∷_ 58 (List._∷_ 70 (List._∷_
-      114 (List._∷_ 97 (List._∷_ 99 (List._∷_ 116 (List._∷_ 105 (List._∷_ 111 (List._∷_ 110 List.[])))))))))))))))))) (Syntax.tcons (Syntax.tyInt Syntax.w32) (Syntax.tcons
-      (Syntax.tyInt Syntax.w32) Syntax.tnil))) (Syntax.tcons (Syntax.tyInt Syntax.w32) (Syntax.tcons (Syntax.tyInt Syntax.w32) Syntax.tnil)))) Syntax.tnil) (Syntax.ttcons
-      (Syntax.tcons (Syntax.tyEnum (List._∷_ 114 (List._∷_ 101 (List._∷_ 102 (List._∷_ 117 (List._∷_ 115 (List._∷_ 97 (List._∷_ 108 (List._∷_ 58 (List._∷_ 58 (List._∷_ 82 (List._∷_
-      101 (List._∷_ 102 (List._∷_ 117 (List._∷_ 115 (List._∷_ 97 (List._∷_ 108 List.[])))))))))))))))) (Syntax.ttcons Syntax.tnil (Syntax.ttcons Syntax.tnil (Syntax.ttcons
-      Syntax.tnil (Syntax.ttcons Syntax.tnil (Syntax.ttcons Syntax.tnil (Syntax.ttcons Syntax.tnil (Syntax.ttcons Syntax.tnil (Syntax.ttcons Syntax.tnil (Syntax.ttcons Syntax.tnil
-      (Syntax.ttcons Syntax.tnil (Syntax.ttcons Syntax.tnil (Syntax.ttcons Syntax.tnil Syntax.ttnil))))))))))))) Syntax.tnil) Syntax.ttnil))),
-) (List._∷_ (
-  1,
-  Rows'.whole
-      (Declared'.row Stream.the-type),
-) (List._∷_ (2, Relend.mslice-owed Of.R (Syntax.tyRef (Syntax.named 0) Syntax.mut Of.tyBy) 0 1 Row.off) (List._∷_ (
-  3,
+      (List._∷_ 97 (List._∷_ 95 (List._∷_ 115 (List._∷_ 116 (List._∷_ 101 (List._∷_ 112 (List._∷_ 115 (List._∷_ 58 (List._∷_ 58 (List._∷_ 83 (List._∷_ 116 (List._∷_ 114 (List._∷_ 101
+      (List._∷_ 97 (List._∷_ 109 List.[])))))))))))))))))))))))))))))) (Syntax.tcons (Syntax.tyStruct (List._∷_ 102 (List._∷_ 114 (List._∷_ 97 (List._∷_ 99 (List._∷_ 116 (List._∷_
+      105 (List._∷_ 111 (List._∷_ 110 (List._∷_ 58 (List._∷_ 58 (List._∷_ 70 (List._∷_ 114 (List._∷_ 97 (List._∷_ 99 (List._∷_ 116 (List._∷_ 105 (List._∷_ 111 (List._∷_ 110
+      List.[])))))))))))))))))) (Syntax.tcons (Syntax.tyInt Syntax.w32) (Syntax.tcons (Syntax.tyInt Syntax.w32) Syntax.tnil))) (Syntax.tcons (Syntax.tyInt Syntax.w32) (Syntax.tcons
+      (Syntax.tyInt Syntax.w32) Syntax.tnil)))) Syntax.tnil) (Syntax.ttcons (Syntax.tcons (Syntax.tyEnum (List._∷_ 114 (List._∷_ 101 (List._∷_ 102 (List._∷_ 117 (List._∷_ 115
+      (List._∷_ 97 (List._∷_ 108 (List._∷_ 58 (List._∷_ 58 (List._∷_ 82 (List._∷_ 101 (List._∷_ 102 (List._∷_ 117 (List._∷_ 115 (List._∷_ 97 (List._∷_ 108 List.[]))))))))))))))))
+      (Syntax.ttcons Syntax.tnil (Syntax.ttcons Syntax.tnil (Syntax.ttcons Syntax.tnil (Syntax.ttcons Syntax.tnil (Syntax.ttcons Syntax.tnil (Syntax.ttcons Syntax.tnil (Syntax.ttcons
+      Syntax.tnil (Syntax.ttcons Syntax.tnil (Syntax.ttcons Syntax.tnil (Syntax.ttcons Syntax.tnil (Syntax.ttcons Syntax.tnil (Syntax.ttcons Syntax.tnil Syntax.ttnil)))))))))))))
+      Syntax.tnil) Syntax.ttnil))),
+) (List._∷_ (1, Rows'.whole (Declared'.row Stream.the-type)) (List._∷_ (
+  2,
+  Relend.mslice-owed Of.R (Syntax.tyRef (Syntax.named 0) Syntax.mut
+      Of.tyBy) 0 1 Row.off,
+) (List._∷_ (3, Rows'.sc-here (Row.sInt Syntax.w32)) (List._∷_ (4, Rows'.sc-here (Row.sInt Syntax.w64)) (List._∷_ (
+  5,
   Rows'.sc-here (Row.sInt
-      Syntax.w32),
-) (List._∷_ (4, Rows'.sc-here (Row.sInt Syntax.w64)) (List._∷_ (5, Rows'.sc-here (Row.sInt Syntax.w64)) (List._∷_ (
-  6,
-  Rows.arrF (Array'.Array (Referent.rtF
-      (Referent.fInt Syntax.w32)) 3) 256 0,
-) (List._∷_ (7, Rows'.any-gone (Syntax.tyArray (Syntax.tyArray (Syntax.tyInt Syntax.w32) 3) 4096)) (List._∷_ (
-  8,
-  Rows'.any-gone
-      Syntax.tyBool,
-) (List._∷_ (
+      Syntax.w64),
+) (List._∷_ (6, Rows.arrF (Array'.Array (Referent.rtF (Referent.fInt Syntax.w32)) 3) 256 0) (List._∷_ (
+  7,
+  Rows'.any-gone (Syntax.tyArray (Syntax.tyArray
+      (Syntax.tyInt Syntax.w32) 3) 4096),
+) (List._∷_ (8, Rows'.any-gone Syntax.tyBool) (List._∷_ (
   9,
-  Rows'.any-gone (Syntax.tyEnum (List._∷_ 114 (List._∷_ 101 (List._∷_ 102 (List._∷_ 117 (List._∷_ 115 (List._∷_ 97 (List._∷_ 108 (List._∷_ 58
-      (List._∷_ 58 (List._∷_ 82 (List._∷_ 101 (List._∷_ 102 (List._∷_ 117 (List._∷_ 115 (List._∷_ 97 (List._∷_ 108 List.[])))))))))))))))) (Syntax.ttcons Syntax.tnil (Syntax.ttcons
+  Rows'.any-gone (Syntax.tyEnum (List._∷_ 114 (List._∷_ 101 (List._∷_ 102
+      (List._∷_ 117 (List._∷_ 115 (List._∷_ 97 (List._∷_ 108 (List._∷_ 58 (List._∷_ 58 (List._∷_ 82 (List._∷_ 101 (List._∷_ 102 (List._∷_ 117 (List._∷_ 115 (List._∷_ 97 (List._∷_ 108
+      List.[])))))))))))))))) (Syntax.ttcons Syntax.tnil (Syntax.ttcons Syntax.tnil (Syntax.ttcons Syntax.tnil (Syntax.ttcons Syntax.tnil (Syntax.ttcons Syntax.tnil (Syntax.ttcons
       Syntax.tnil (Syntax.ttcons Syntax.tnil (Syntax.ttcons Syntax.tnil (Syntax.ttcons Syntax.tnil (Syntax.ttcons Syntax.tnil (Syntax.ttcons Syntax.tnil (Syntax.ttcons Syntax.tnil
-      (Syntax.ttcons Syntax.tnil (Syntax.ttcons Syntax.tnil (Syntax.ttcons Syntax.tnil (Syntax.ttcons Syntax.tnil Syntax.ttnil))))))))))))),
+      Syntax.ttnil))))))))))))),
+) (List._∷_ (10, Rows'.any-gone (Syntax.tyArray (Syntax.tyInt Syntax.w32) 3)) (List._∷_ (
+  11,
+  Relend.msptr Of.R (Syntax.tyRef Syntax.erased
+      Syntax.mut Of.tyBy) 1,
 ) (List._∷_ (
-  10,
-  Rows'.any-gone
-      (Syntax.tyArray (Syntax.tyInt Syntax.w32) 3),
-) (List._∷_ (11, Relend.msptr Of.R (Syntax.tyRef Syntax.erased Syntax.mut Of.tyBy) 1) (List._∷_ (
   12,
-  Rows'.any-gone
-      (Syntax.tyStruct (List._∷_ 38 (List._∷_ 91 (List._∷_ 93 List.[]))) (Syntax.tcons (Syntax.tyRef Syntax.erased Syntax.mut Of.tyBy) (Syntax.tcons (Syntax.tyInt Syntax.w64)
-      Syntax.tnil))),
-) (List._∷_ (13, Rows'.any-gone (Syntax.tyRef Syntax.erased Syntax.mut (Syntax.tyArray (Syntax.tyArray (Syntax.tyInt Syntax.w32) 3) 256))) (List._∷_ (
+  Rows'.any-gone (Syntax.tyStruct (List._∷_ 38 (List._∷_ 91 (List._∷_ 93 List.[]))) (Syntax.tcons (Syntax.tyRef Syntax.erased Syntax.mut
+      Of.tyBy) (Syntax.tcons (Syntax.tyInt Syntax.w64) Syntax.tnil))),
+) (List._∷_ (
+  13,
+  Rows'.any-gone (Syntax.tyRef Syntax.erased Syntax.mut (Syntax.tyArray (Syntax.tyArray
+      (Syntax.tyInt Syntax.w32) 3) 256)),
+) (List._∷_ (
   14,
-  Rows'.any-gone (Syntax.tyStruct (List._∷_ 38 (List._∷_ 91 (List._∷_ 93 List.[]))) (Syntax.tcons (Syntax.tyRef Syntax.erased Syntax.mut (Syntax.tyArray (Syntax.tyInt Syntax.w32)
-      3)) (Syntax.tcons (Syntax.tyInt Syntax.w64) Syntax.tnil))),
-) (List._∷_ (15, Rows'.any-gone (Syntax.tyArray (Syntax.tyInt Syntax.w32) 3)) List.[])))))))))))))))
+  Rows'.any-gone (Syntax.tyStruct (List._∷_ 38 (List._∷_ 91 (List._∷_ 93 List.[]))) (Syntax.tcons (Syntax.tyRef
+      Syntax.erased Syntax.mut (Syntax.tyArray (Syntax.tyInt Syntax.w32) 3)) (Syntax.tcons (Syntax.tyInt Syntax.w64) Syntax.tnil))),
+) (List._∷_ (
+  15,
+  Rows'.any-gone (Syntax.tyArray
+      (Syntax.tyInt Syntax.w32) 3),
+) List.[])))))))))))))))
 
 abbrev pub t19 : List.List Row.Entry
 t19 = List._∷_ (
@@ -1249,103 +1242,42 @@ t19 = List._∷_ (
       (List._∷_ 95 (List._∷_ 107 (List._∷_ 104 (List._∷_ 97 (List._∷_ 110 (List._∷_ 110 (List._∷_ 97 (List._∷_ 58 (List._∷_ 58 (List._∷_ 73 (List._∷_ 110 (List._∷_ 115 (List._∷_ 101
       (List._∷_ 114 (List._∷_ 116 (List._∷_ 101 (List._∷_ 100 List.[])))))))))))))))))))))))))) (Syntax.ttcons (Syntax.tcons (Syntax.tyStruct (List._∷_ 103 (List._∷_ 114 (List._∷_
       101 (List._∷_ 101 (List._∷_ 110 (List._∷_ 119 (List._∷_ 97 (List._∷_ 108 (List._∷_ 100 (List._∷_ 95 (List._∷_ 107 (List._∷_ 104 (List._∷_ 97 (List._∷_ 110 (List._∷_ 110
-      (List._∷_ 97 (List._∷_ 58 (List._∷_ 58 (List._∷_ 83 (List._∷_ 116 (List._∷_ 114 (List._∷_ 101 (List._∷_ 97 (List._∷_ 109 List.[])))))))))))))))))))))))) (Syntax.tcons
-      (Syntax.tyStruct (List._∷_ 102 (List._∷_ 114 (List._∷_ 97 (List._∷_ 99 (List._∷_ 116 (List._∷_ 105 (List._∷_ 111 (List._∷_ 110 (List._∷_ 58 (List._∷_ 58 (List._∷_ 70 (List._∷_
-      114 (List._∷_ 97 (List._∷_ 99 (List._∷_ 116 (List._∷_ 105 (List._∷_ 111 (List._∷_ 110 List.[])))))))))))))))))) (Syntax.tcons (Syntax.tyInt Syntax.w32) (Syntax.tcons
-      (Syntax.tyInt Syntax.w32) Syntax.tnil))) (Syntax.tcons (Syntax.tyInt Syntax.w32) (Syntax.tcons (Syntax.tyInt Syntax.w32) Syntax.tnil)))) Syntax.tnil) (Syntax.ttcons
-      (Syntax.tcons (Syntax.tyEnum (List._∷_ 114 (List._∷_ 101 (List._∷_ 102 (List._∷_ 117 (List._∷_ 115 (List._∷_ 97 (List._∷_ 108 (List._∷_ 58 (List._∷_ 58 (List._∷_ 82 (List._∷_
-      101 (List._∷_ 102 (List._∷_ 117 (List._∷_ 115 (List._∷_ 97 (List._∷_ 108 List.[])))))))))))))))) (Syntax.ttcons Syntax.tnil (Syntax.ttcons Syntax.tnil (Syntax.ttcons
-      Syntax.tnil (Syntax.ttcons Syntax.tnil (Syntax.ttcons Syntax.tnil (Syntax.ttcons Syntax.tnil (Syntax.ttcons Syntax.tnil (Syntax.ttcons Syntax.tnil (Syntax.ttcons Syntax.tnil
-      (Syntax.ttcons Syntax.tnil (Syntax.ttcons Syntax.tnil (Syntax.ttcons Syntax.tnil Syntax.ttnil))))))))))))) Syntax.tnil) Syntax.ttnil))),
-) (List._∷_ (
-  1,
-  Rows'.whole
-      (Declared'.row Stream.the-type),
-) (List._∷_ (2, Relend.mslice-owed Of.R (Syntax.tyRef (Syntax.named 0) Syntax.mut Of.tyBy) 0 1 Row.off) (List._∷_ (
-  3,
+      (List._∷_ 97 (List._∷_ 95 (List._∷_ 115 (List._∷_ 116 (List._∷_ 101 (List._∷_ 112 (List._∷_ 115 (List._∷_ 58 (List._∷_ 58 (List._∷_ 83 (List._∷_ 116 (List._∷_ 114 (List._∷_ 101
+      (List._∷_ 97 (List._∷_ 109 List.[])))))))))))))))))))))))))))))) (Syntax.tcons (Syntax.tyStruct (List._∷_ 102 (List._∷_ 114 (List._∷_ 97 (List._∷_ 99 (List._∷_ 116 (List._∷_
+      105 (List._∷_ 111 (List._∷_ 110 (List._∷_ 58 (List._∷_ 58 (List._∷_ 70 (List._∷_ 114 (List._∷_ 97 (List._∷_ 99 (List._∷_ 116 (List._∷_ 105 (List._∷_ 111 (List._∷_ 110
+      List.[])))))))))))))))))) (Syntax.tcons (Syntax.tyInt Syntax.w32) (Syntax.tcons (Syntax.tyInt Syntax.w32) Syntax.tnil))) (Syntax.tcons (Syntax.tyInt Syntax.w32) (Syntax.tcons
+      (Syntax.tyInt Syntax.w32) Syntax.tnil)))) Syntax.tnil) (Syntax.ttcons (Syntax.tcons (Syntax.tyEnum (List._∷_ 114 (List._∷_ 101 (List._∷_ 102 (List._∷_ 117 (List._∷_ 115
+      (List._∷_ 97 (List._∷_ 108 (List._∷_ 58 (List._∷_ 58 (List._∷_ 82 (List._∷_ 101 (List._∷_ 102 (List._∷_ 117 (List._∷_ 115 (List._∷_ 97 (List._∷_ 108 List.[]))))))))))))))))
+      (Syntax.ttcons Syntax.tnil (Syntax.ttcons Syntax.tnil (Syntax.ttcons Syntax.tnil (Syntax.ttcons Syntax.tnil (Syntax.ttcons Syntax.tnil (Syntax.ttcons Syntax.tnil (Syntax.ttcons
+      Syntax.tnil (Syntax.ttcons Syntax.tnil (Syntax.ttcons Syntax.tnil (Syntax.ttcons Syntax.tnil (Syntax.ttcons Syntax.tnil (Syntax.ttcons Syntax.tnil Syntax.ttnil)))))))))))))
+      Syntax.tnil) Syntax.ttnil))),
+) (List._∷_ (1, Rows'.whole (Declared'.row Stream.the-type)) (List._∷_ (
+  2,
+  Relend.mslice-owed Of.R (Syntax.tyRef (Syntax.named 0) Syntax.mut
+      Of.tyBy) 0 1 Row.off,
+) (List._∷_ (3, Rows'.sc-here (Row.sInt Syntax.w32)) (List._∷_ (4, Rows'.sc-here (Row.sInt Syntax.w64)) (List._∷_ (
+  5,
   Rows'.sc-here (Row.sInt
-      Syntax.w32),
-) (List._∷_ (4, Rows'.sc-here (Row.sInt Syntax.w64)) (List._∷_ (5, Rows'.sc-here (Row.sInt Syntax.w64)) (List._∷_ (
-  6,
-  Rows.arrF (Array'.Array (Referent.rtF
-      (Referent.fInt Syntax.w32)) 3) 256 0,
-) (List._∷_ (7, Rows'.any-gone (Syntax.tyArray (Syntax.tyArray (Syntax.tyInt Syntax.w32) 3) 4096)) (List._∷_ (
-  8,
-  Rows'.any-gone
-      Syntax.tyBool,
-) (List._∷_ (
+      Syntax.w64),
+) (List._∷_ (6, Rows.arrF (Array'.Array (Referent.rtF (Referent.fInt Syntax.w32)) 3) 256 0) (List._∷_ (
+  7,
+  Rows'.any-gone (Syntax.tyArray (Syntax.tyArray
+      (Syntax.tyInt Syntax.w32) 3) 4096),
+) (List._∷_ (8, Rows'.any-gone Syntax.tyBool) (List._∷_ (
   9,
-  Rows'.any-gone (Syntax.tyEnum (List._∷_ 114 (List._∷_ 101 (List._∷_ 102 (List._∷_ 117 (List._∷_ 115 (List._∷_ 97 (List._∷_ 108 (List._∷_ 58
-      (List._∷_ 58 (List._∷_ 82 (List._∷_ 101 (List._∷_ 102 (List._∷_ 117 (List._∷_ 115 (List._∷_ 97 (List._∷_ 108 List.[])))))))))))))))) (Syntax.ttcons Syntax.tnil (Syntax.ttcons
+  Rows'.any-gone (Syntax.tyEnum (List._∷_ 114 (List._∷_ 101 (List._∷_ 102
+      (List._∷_ 117 (List._∷_ 115 (List._∷_ 97 (List._∷_ 108 (List._∷_ 58 (List._∷_ 58 (List._∷_ 82 (List._∷_ 101 (List._∷_ 102 (List._∷_ 117 (List._∷_ 115 (List._∷_ 97 (List._∷_ 108
+      List.[])))))))))))))))) (Syntax.ttcons Syntax.tnil (Syntax.ttcons Syntax.tnil (Syntax.ttcons Syntax.tnil (Syntax.ttcons Syntax.tnil (Syntax.ttcons Syntax.tnil (Syntax.ttcons
       Syntax.tnil (Syntax.ttcons Syntax.tnil (Syntax.ttcons Syntax.tnil (Syntax.ttcons Syntax.tnil (Syntax.ttcons Syntax.tnil (Syntax.ttcons Syntax.tnil (Syntax.ttcons Syntax.tnil
-      (Syntax.ttcons Syntax.tnil (Syntax.ttcons Syntax.tnil (Syntax.ttcons Syntax.tnil (Syntax.ttcons Syntax.tnil Syntax.ttnil))))))))))))),
-) (List._∷_ (
-  10,
-  Rows'.any-gone
-      (Syntax.tyArray (Syntax.tyInt Syntax.w32) 3),
-) (List._∷_ (11, Rows'.any-gone (Syntax.tyRef Syntax.erased Syntax.mut Of.tyBy)) (List._∷_ (
-  12,
-  Mut.mslice Of.R (Syntax.tyRef
-      Syntax.erased Syntax.mut Of.tyBy) 1,
-) (List._∷_ (
+      Syntax.ttnil))))))))))))),
+) (List._∷_ (10, Rows'.any-gone (Syntax.tyArray (Syntax.tyInt Syntax.w32) 3)) (List._∷_ (
+  11,
+  Rows'.any-gone (Syntax.tyRef Syntax.erased Syntax.mut
+      Of.tyBy),
+) (List._∷_ (12, Mut.mslice Of.R (Syntax.tyRef Syntax.erased Syntax.mut Of.tyBy) 1) (List._∷_ (
   13,
-  Rows'.any-gone (Syntax.tyRef Syntax.erased Syntax.mut (Syntax.tyArray (Syntax.tyArray (Syntax.tyInt Syntax.w32) 3) 256)),
-) (List._∷_ (
-  14,
-  Rows'.any-gone (Syntax.tyStruct (List._∷_ 38 (List._∷_ 91 (List._∷_ 93 List.[]))) (Syntax.tcons (Syntax.tyRef Syntax.erased Syntax.mut (Syntax.tyArray
-      (Syntax.tyInt Syntax.w32) 3)) (Syntax.tcons (Syntax.tyInt Syntax.w64) Syntax.tnil))),
-) (List._∷_ (15, Rows'.any-gone (Syntax.tyArray (Syntax.tyInt Syntax.w32) 3))
-    List.[])))))))))))))))
-
-abbrev pub t20 : List.List Row.Entry
-t20 = List._∷_ (
-  0,
-  Rows'.any-gone (Syntax.tyEnum (List._∷_ 103 (List._∷_ 114 (List._∷_ 101 (List._∷_ 101 (List._∷_ 110 (List._∷_ 119 (List._∷_ 97 (List._∷_ 108 (List._∷_ 100
-      (List._∷_ 95 (List._∷_ 107 (List._∷_ 104 (List._∷_ 97 (List._∷_ 110 (List._∷_ 110 (List._∷_ 97 (List._∷_ 58 (List._∷_ 58 (List._∷_ 73 (List._∷_ 110 (List._∷_ 115 (List._∷_ 101
-      (List._∷_ 114 (List._∷_ 116 (List._∷_ 101 (List._∷_ 100 List.[])))))))))))))))))))))))))) (Syntax.ttcons (Syntax.tcons (Syntax.tyStruct (List._∷_ 103 (List._∷_ 114 (List._∷_
-      101 (List._∷_ 101 (List._∷_ 110 (List._∷_ 119 (List._∷_ 97 (List._∷_ 108 (List._∷_ 100 (List._∷_ 95 (List._∷_ 107 (List._∷_ 104 (List._∷_ 97 (List._∷_ 110 (List._∷_ 110
-      (List._∷_ 97 (List._∷_ 58 (List._∷_ 58 (List._∷_ 83 (List._∷_ 116 (List._∷_ 114 (List._∷_ 101 (List._∷_ 97 (List._∷_ 109 List.[])))))))))))))))))))))))) (Syntax.tcons
-      (Syntax.tyStruct (List._∷_ 102 (List._∷_ 114 (List._∷_ 97 (List._∷_ 99 (List._∷_ 116 (List._∷_ 105 (List._∷_ 111 (List._∷_ 110 (List._∷_ 58 (List._∷_ 58 (List._∷_ 70 (List._∷_
-      114 (List._∷_ 97 (List._∷_ 99 (List._∷_ 116 (List._∷_ 105 (List._∷_ 111 (List._∷_ 110 List.[])))))))))))))))))) (Syntax.tcons (Syntax.tyInt Syntax.w32) (Syntax.tcons
-      (Syntax.tyInt Syntax.w32) Syntax.tnil))) (Syntax.tcons (Syntax.tyInt Syntax.w32) (Syntax.tcons (Syntax.tyInt Syntax.w32) Syntax.tnil)))) Syntax.tnil) (Syntax.ttcons
-      (Syntax.tcons (Syntax.tyEnum (List._∷_ 114 (List._∷_ 101 (List._∷_ 102 (List._∷_ 117 (List._∷_ 115 (List._∷_ 97 (List._∷_ 108 (List._∷_ 58 (List._∷_ 58 (List._∷_ 82 (List._∷_
-      101 (List._∷_ 102 (List._∷_ 117 (List._∷_ 115 (List._∷_ 97 (List._∷_ 108 List.[])))))))))))))))) (Syntax.ttcons Syntax.tnil (Syntax.ttcons Syntax.tnil (Syntax.ttcons
-      Syntax.tnil (Syntax.ttcons Syntax.tnil (Syntax.ttcons Syntax.tnil (Syntax.ttcons Syntax.tnil (Syntax.ttcons Syntax.tnil (Syntax.ttcons Syntax.tnil (Syntax.ttcons Syntax.tnil
-      (Syntax.ttcons Syntax.tnil (Syntax.ttcons Syntax.tnil (Syntax.ttcons Syntax.tnil Syntax.ttnil))))))))))))) Syntax.tnil) Syntax.ttnil))),
-) (List._∷_ (
-  1,
-  Rows'.whole
-      (Declared'.row Stream.the-type),
-) (List._∷_ (2, Relend.mslice-owed Of.R (Syntax.tyRef (Syntax.named 0) Syntax.mut Of.tyBy) 0 1 Row.off) (List._∷_ (
-  3,
-  Rows'.sc-here (Row.sInt
-      Syntax.w32),
-) (List._∷_ (4, Rows'.sc-here (Row.sInt Syntax.w64)) (List._∷_ (5, Rows'.sc-here (Row.sInt Syntax.w64)) (List._∷_ (
-  6,
-  Rows.arr-owed (Array'.Array (Referent.rtF
-      (Referent.fInt Syntax.w32)) 3) 256 2,
-) (List._∷_ (7, Rows'.any-gone (Syntax.tyArray (Syntax.tyArray (Syntax.tyInt Syntax.w32) 3) 4096)) (List._∷_ (
-  8,
-  Rows'.any-gone
-      Syntax.tyBool,
-) (List._∷_ (
-  9,
-  Rows'.any-gone (Syntax.tyEnum (List._∷_ 114 (List._∷_ 101 (List._∷_ 102 (List._∷_ 117 (List._∷_ 115 (List._∷_ 97 (List._∷_ 108 (List._∷_ 58
-      (List._∷_ 58 (List._∷_ 82 (List._∷_ 101 (List._∷_ 102 (List._∷_ 117 (List._∷_ 115 (List._∷_ 97 (List._∷_ 108 List.[])))))))))))))))) (Syntax.ttcons Syntax.tnil (Syntax.ttcons
-      Syntax.tnil (Syntax.ttcons Syntax.tnil (Syntax.ttcons Syntax.tnil (Syntax.ttcons Syntax.tnil (Syntax.ttcons Syntax.tnil (Syntax.ttcons Syntax.tnil (Syntax.ttcons Syntax.tnil
-      (Syntax.ttcons Syntax.tnil (Syntax.ttcons Syntax.tnil (Syntax.ttcons Syntax.tnil (Syntax.ttcons Syntax.tnil Syntax.ttnil))))))))))))),
-) (List._∷_ (
-  10,
-  Rows'.any-gone
-      (Syntax.tyArray (Syntax.tyInt Syntax.w32) 3),
-) (List._∷_ (11, Rows'.any-gone (Syntax.tyRef Syntax.erased Syntax.mut Of.tyBy)) (List._∷_ (
-  12,
-  Mut.mslice Of.R (Syntax.tyRef
-      Syntax.erased Syntax.mut Of.tyBy) 1,
-) (List._∷_ (
-  13,
-  Relend.msptr (Array'.Array (Referent.rtF (Referent.fInt Syntax.w32)) 3) (Syntax.tyRef Syntax.erased Syntax.mut
-      (Syntax.tyArray (Syntax.tyArray (Syntax.tyInt Syntax.w32) 3) 256)) 2,
+  Rows'.any-gone (Syntax.tyRef Syntax.erased Syntax.mut
+      (Syntax.tyArray (Syntax.tyArray (Syntax.tyInt Syntax.w32) 3) 256)),
 ) (List._∷_ (
   14,
   Rows'.any-gone (Syntax.tyStruct (List._∷_ 38 (List._∷_ 91 (List._∷_ 93 List.[])))
@@ -1355,6 +1287,56 @@ t20 = List._∷_ (
   Rows'.any-gone (Syntax.tyArray (Syntax.tyInt Syntax.w32) 3),
 ) List.[])))))))))))))))
 
+abbrev pub t20 : List.List Row.Entry
+t20 = List._∷_ (
+  0,
+  Rows'.any-gone (Syntax.tyEnum (List._∷_ 103 (List._∷_ 114 (List._∷_ 101 (List._∷_ 101 (List._∷_ 110 (List._∷_ 119 (List._∷_ 97 (List._∷_ 108 (List._∷_ 100
+      (List._∷_ 95 (List._∷_ 107 (List._∷_ 104 (List._∷_ 97 (List._∷_ 110 (List._∷_ 110 (List._∷_ 97 (List._∷_ 58 (List._∷_ 58 (List._∷_ 73 (List._∷_ 110 (List._∷_ 115 (List._∷_ 101
+      (List._∷_ 114 (List._∷_ 116 (List._∷_ 101 (List._∷_ 100 List.[])))))))))))))))))))))))))) (Syntax.ttcons (Syntax.tcons (Syntax.tyStruct (List._∷_ 103 (List._∷_ 114 (List._∷_
+      101 (List._∷_ 101 (List._∷_ 110 (List._∷_ 119 (List._∷_ 97 (List._∷_ 108 (List._∷_ 100 (List._∷_ 95 (List._∷_ 107 (List._∷_ 104 (List._∷_ 97 (List._∷_ 110 (List._∷_ 110
+      (List._∷_ 97 (List._∷_ 95 (List._∷_ 115 (List._∷_ 116 (List._∷_ 101 (List._∷_ 112 (List._∷_ 115 (List._∷_ 58 (List._∷_ 58 (List._∷_ 83 (List._∷_ 116 (List._∷_ 114 (List._∷_ 101
+      (List._∷_ 97 (List._∷_ 109 List.[])))))))))))))))))))))))))))))) (Syntax.tcons (Syntax.tyStruct (List._∷_ 102 (List._∷_ 114 (List._∷_ 97 (List._∷_ 99 (List._∷_ 116 (List._∷_
+      105 (List._∷_ 111 (List._∷_ 110 (List._∷_ 58 (List._∷_ 58 (List._∷_ 70 (List._∷_ 114 (List._∷_ 97 (List._∷_ 99 (List._∷_ 116 (List._∷_ 105 (List._∷_ 111 (List._∷_ 110
+      List.[])))))))))))))))))) (Syntax.tcons (Syntax.tyInt Syntax.w32) (Syntax.tcons (Syntax.tyInt Syntax.w32) Syntax.tnil))) (Syntax.tcons (Syntax.tyInt Syntax.w32) (Syntax.tcons
+      (Syntax.tyInt Syntax.w32) Syntax.tnil)))) Syntax.tnil) (Syntax.ttcons (Syntax.tcons (Syntax.tyEnum (List._∷_ 114 (List._∷_ 101 (List._∷_ 102 (List._∷_ 117 (List._∷_ 115
+      (List._∷_ 97 (List._∷_ 108 (List._∷_ 58 (List._∷_ 58 (List._∷_ 82 (List._∷_ 101 (List._∷_ 102 (List._∷_ 117 (List._∷_ 115 (List._∷_ 97 (List._∷_ 108 List.[]))))))))))))))))
+      (Syntax.ttcons Syntax.tnil (Syntax.ttcons Syntax.tnil (Syntax.ttcons Syntax.tnil (Syntax.ttcons Syntax.tnil (Syntax.ttcons Syntax.tnil (Syntax.ttcons Syntax.tnil (Syntax.ttcons
+      Syntax.tnil (Syntax.ttcons Syntax.tnil (Syntax.ttcons Syntax.tnil (Syntax.ttcons Syntax.tnil (Syntax.ttcons Syntax.tnil (Syntax.ttcons Syntax.tnil Syntax.ttnil)))))))))))))
+      Syntax.tnil) Syntax.ttnil))),
+) (List._∷_ (1, Rows'.whole (Declared'.row Stream.the-type)) (List._∷_ (
+  2,
+  Relend.mslice-owed Of.R (Syntax.tyRef (Syntax.named 0) Syntax.mut
+      Of.tyBy) 0 1 Row.off,
+) (List._∷_ (3, Rows'.sc-here (Row.sInt Syntax.w32)) (List._∷_ (4, Rows'.sc-here (Row.sInt Syntax.w64)) (List._∷_ (
+  5,
+  Rows'.sc-here (Row.sInt
+      Syntax.w64),
+) (List._∷_ (6, Rows.arr-owed (Array'.Array (Referent.rtF (Referent.fInt Syntax.w32)) 3) 256 2) (List._∷_ (
+  7,
+  Rows'.any-gone (Syntax.tyArray (Syntax.tyArray
+      (Syntax.tyInt Syntax.w32) 3) 4096),
+) (List._∷_ (8, Rows'.any-gone Syntax.tyBool) (List._∷_ (
+  9,
+  Rows'.any-gone (Syntax.tyEnum (List._∷_ 114 (List._∷_ 101 (List._∷_ 102
+      (List._∷_ 117 (List._∷_ 115 (List._∷_ 97 (List._∷_ 108 (List._∷_ 58 (List._∷_ 58 (List._∷_ 82 (List._∷_ 101 (List._∷_ 102 (List._∷_ 117 (List._∷_ 115 (List._∷_ 97 (List._∷_ 108
+      List.[])))))))))))))))) (Syntax.ttcons Syntax.tnil (Syntax.ttcons Syntax.tnil (Syntax.ttcons Syntax.tnil (Syntax.ttcons Syntax.tnil (Syntax.ttcons Syntax.tnil (Syntax.ttcons
+      Syntax.tnil (Syntax.ttcons Syntax.tnil (Syntax.ttcons Syntax.tnil (Syntax.ttcons Syntax.tnil (Syntax.ttcons Syntax.tnil (Syntax.ttcons Syntax.tnil (Syntax.ttcons Syntax.tnil
+      Syntax.ttnil))))))))))))),
+) (List._∷_ (10, Rows'.any-gone (Syntax.tyArray (Syntax.tyInt Syntax.w32) 3)) (List._∷_ (
+  11,
+  Rows'.any-gone (Syntax.tyRef Syntax.erased Syntax.mut
+      Of.tyBy),
+) (List._∷_ (12, Mut.mslice Of.R (Syntax.tyRef Syntax.erased Syntax.mut Of.tyBy) 1) (List._∷_ (
+  13,
+  Relend.msptr (Array'.Array (Referent.rtF (Referent.fInt
+      Syntax.w32)) 3) (Syntax.tyRef Syntax.erased Syntax.mut (Syntax.tyArray (Syntax.tyArray (Syntax.tyInt Syntax.w32) 3) 256)) 2,
+) (List._∷_ (
+  14,
+  Rows'.any-gone (Syntax.tyStruct
+      (List._∷_ 38 (List._∷_ 91 (List._∷_ 93 List.[]))) (Syntax.tcons (Syntax.tyRef Syntax.erased Syntax.mut (Syntax.tyArray (Syntax.tyInt Syntax.w32) 3)) (Syntax.tcons (Syntax.tyInt
+      Syntax.w64) Syntax.tnil))),
+) (List._∷_ (15, Rows'.any-gone (Syntax.tyArray (Syntax.tyInt Syntax.w32) 3)) List.[])))))))))))))))
+
 abbrev pub t21 : List.List Row.Entry
 t21 = List._∷_ (
   0,
@@ -1362,50 +1344,46 @@ t21 = List._∷_ (
       (List._∷_ 95 (List._∷_ 107 (List._∷_ 104 (List._∷_ 97 (List._∷_ 110 (List._∷_ 110 (List._∷_ 97 (List._∷_ 58 (List._∷_ 58 (List._∷_ 73 (List._∷_ 110 (List._∷_ 115 (List._∷_ 101
       (List._∷_ 114 (List._∷_ 116 (List._∷_ 101 (List._∷_ 100 List.[])))))))))))))))))))))))))) (Syntax.ttcons (Syntax.tcons (Syntax.tyStruct (List._∷_ 103 (List._∷_ 114 (List._∷_
       101 (List._∷_ 101 (List._∷_ 110 (List._∷_ 119 (List._∷_ 97 (List._∷_ 108 (List._∷_ 100 (List._∷_ 95 (List._∷_ 107 (List._∷_ 104 (List._∷_ 97 (List._∷_ 110 (List._∷_ 110
-      (List._∷_ 97 (List._∷_ 58 (List._∷_ 58 (List._∷_ 83 (List._∷_ 116 (List._∷_ 114 (List._∷_ 101 (List._∷_ 97 (List._∷_ 109 List.[])))))))))))))))))))))))) (Syntax.tcons
-      (Syntax.tyStruct (List._∷_ 102 (List._∷_ 114 (List._∷_ 97 (List._∷_ 99 (List._∷_ 116 (List._∷_ 105 (List._∷_ 111 (List._∷_ 110 (List._∷_ 58 (List._∷_ 58 (List._∷_ 70 (List._∷_
-      114 (List._∷_ 97 (List._∷_ 99 (List._∷_ 116 (List._∷_ 105 (List._∷_ 111 (List._∷_ 110 List.[])))))))))))))))))) (Syntax.tcons (Syntax.tyInt Syntax.w32) (Syntax.tcons
-      (Syntax.tyInt Syntax.w32) Syntax.tnil))) (Syntax.tcons (Syntax.tyInt Syntax.w32) (Syntax.tcons (Syntax.tyInt Syntax.w32) Syntax.tnil)))) Syntax.tnil) (Syntax.ttcons
-      (Syntax.tcons (Syntax.tyEnum (List._∷_ 114 (List._∷_ 101 (List._∷_ 102 (List._∷_ 117 (List._∷_ 115 (List._∷_ 97 (List._∷_ 108 (List._∷_ 58 (List._∷_ 58 (List._∷_ 82 (List._∷_
-      101 (List._∷_ 102 (List._∷_ 117 (List._∷_ 115 (List._∷_ 97 (List._∷_ 108 List.[])))))))))))))))) (Syntax.ttcons Syntax.tnil (Syntax.ttcons Syntax.tnil (Syntax.ttcons
-      Syntax.tnil (Syntax.ttcons Syntax.tnil (Syntax.ttcons Syntax.tnil (Syntax.ttcons Syntax.tnil (Syntax.ttcons Syntax.tnil (Syntax.ttcons Syntax.tnil (Syntax.ttcons Syntax.tnil
-      (Syntax.ttcons Syntax.tnil (Syntax.ttcons Syntax.tnil (Syntax.ttcons Syntax.tnil Syntax.ttnil))))))))))))) Syntax.tnil) Syntax.ttnil))),
-) (List._∷_ (
-  1,
-  Rows'.whole
-      (Declared'.row Stream.the-type),
-) (List._∷_ (2, Relend.mslice-owed Of.R (Syntax.tyRef (Syntax.named 0) Syntax.mut Of.tyBy) 0 1 Row.off) (List._∷_ (
-  3,
+      (List._∷_ 97 (List._∷_ 95 (List._∷_ 115 (List._∷_ 116 (List._∷_ 101 (List._∷_ 112 (List._∷_ 115 (List._∷_ 58 (List._∷_ 58 (List._∷_ 83 (List._∷_ 116 (List._∷_ 114 (List._∷_ 101
+      (List._∷_ 97 (List._∷_ 109 List.[])))))))))))))))))))))))))))))) (Syntax.tcons (Syntax.tyStruct (List._∷_ 102 (List._∷_ 114 (List._∷_ 97 (List._∷_ 99 (List._∷_ 116 (List._∷_
+      105 (List._∷_ 111 (List._∷_ 110 (List._∷_ 58 (List._∷_ 58 (List._∷_ 70 (List._∷_ 114 (List._∷_ 97 (List._∷_ 99 (List._∷_ 116 (List._∷_ 105 (List._∷_ 111 (List._∷_ 110
+      List.[])))))))))))))))))) (Syntax.tcons (Syntax.tyInt Syntax.w32) (Syntax.tcons (Syntax.tyInt Syntax.w32) Syntax.tnil))) (Syntax.tcons (Syntax.tyInt Syntax.w32) (Syntax.tcons
+      (Syntax.tyInt Syntax.w32) Syntax.tnil)))) Syntax.tnil) (Syntax.ttcons (Syntax.tcons (Syntax.tyEnum (List._∷_ 114 (List._∷_ 101 (List._∷_ 102 (List._∷_ 117 (List._∷_ 115
+      (List._∷_ 97 (List._∷_ 108 (List._∷_ 58 (List._∷_ 58 (List._∷_ 82 (List._∷_ 101 (List._∷_ 102 (List._∷_ 117 (List._∷_ 115 (List._∷_ 97 (List._∷_ 108 List.[]))))))))))))))))
+      (Syntax.ttcons Syntax.tnil (Syntax.ttcons Syntax.tnil (Syntax.ttcons Syntax.tnil (Syntax.ttcons Syntax.tnil (Syntax.ttcons Syntax.tnil (Syntax.ttcons Syntax.tnil (Syntax.ttcons
+      Syntax.tnil (Syntax.ttcons Syntax.tnil (Syntax.ttcons Syntax.tnil (Syntax.ttcons Syntax.tnil (Syntax.ttcons Syntax.tnil (Syntax.ttcons Syntax.tnil Syntax.ttnil)))))))))))))
+      Syntax.tnil) Syntax.ttnil))),
+) (List._∷_ (1, Rows'.whole (Declared'.row Stream.the-type)) (List._∷_ (
+  2,
+  Relend.mslice-owed Of.R (Syntax.tyRef (Syntax.named 0) Syntax.mut
+      Of.tyBy) 0 1 Row.off,
+) (List._∷_ (3, Rows'.sc-here (Row.sInt Syntax.w32)) (List._∷_ (4, Rows'.sc-here (Row.sInt Syntax.w64)) (List._∷_ (
+  5,
   Rows'.sc-here (Row.sInt
-      Syntax.w32),
-) (List._∷_ (4, Rows'.sc-here (Row.sInt Syntax.w64)) (List._∷_ (5, Rows'.sc-here (Row.sInt Syntax.w64)) (List._∷_ (
-  6,
-  Rows.arr-owed (Array'.Array (Referent.rtF
-      (Referent.fInt Syntax.w32)) 3) 256 2,
-) (List._∷_ (7, Rows'.any-gone (Syntax.tyArray (Syntax.tyArray (Syntax.tyInt Syntax.w32) 3) 4096)) (List._∷_ (
-  8,
-  Rows'.any-gone
-      Syntax.tyBool,
-) (List._∷_ (
+      Syntax.w64),
+) (List._∷_ (6, Rows.arr-owed (Array'.Array (Referent.rtF (Referent.fInt Syntax.w32)) 3) 256 2) (List._∷_ (
+  7,
+  Rows'.any-gone (Syntax.tyArray (Syntax.tyArray
+      (Syntax.tyInt Syntax.w32) 3) 4096),
+) (List._∷_ (8, Rows'.any-gone Syntax.tyBool) (List._∷_ (
   9,
-  Rows'.any-gone (Syntax.tyEnum (List._∷_ 114 (List._∷_ 101 (List._∷_ 102 (List._∷_ 117 (List._∷_ 115 (List._∷_ 97 (List._∷_ 108 (List._∷_ 58
-      (List._∷_ 58 (List._∷_ 82 (List._∷_ 101 (List._∷_ 102 (List._∷_ 117 (List._∷_ 115 (List._∷_ 97 (List._∷_ 108 List.[])))))))))))))))) (Syntax.ttcons Syntax.tnil (Syntax.ttcons
+  Rows'.any-gone (Syntax.tyEnum (List._∷_ 114 (List._∷_ 101 (List._∷_ 102
+      (List._∷_ 117 (List._∷_ 115 (List._∷_ 97 (List._∷_ 108 (List._∷_ 58 (List._∷_ 58 (List._∷_ 82 (List._∷_ 101 (List._∷_ 102 (List._∷_ 117 (List._∷_ 115 (List._∷_ 97 (List._∷_ 108
+      List.[])))))))))))))))) (Syntax.ttcons Syntax.tnil (Syntax.ttcons Syntax.tnil (Syntax.ttcons Syntax.tnil (Syntax.ttcons Syntax.tnil (Syntax.ttcons Syntax.tnil (Syntax.ttcons
       Syntax.tnil (Syntax.ttcons Syntax.tnil (Syntax.ttcons Syntax.tnil (Syntax.ttcons Syntax.tnil (Syntax.ttcons Syntax.tnil (Syntax.ttcons Syntax.tnil (Syntax.ttcons Syntax.tnil
-      (Syntax.ttcons Syntax.tnil (Syntax.ttcons Syntax.tnil (Syntax.ttcons Syntax.tnil (Syntax.ttcons Syntax.tnil Syntax.ttnil))))))))))))),
-) (List._∷_ (
-  10,
-  Rows'.any-gone
-      (Syntax.tyArray (Syntax.tyInt Syntax.w32) 3),
-) (List._∷_ (11, Rows'.any-gone (Syntax.tyRef Syntax.erased Syntax.mut Of.tyBy)) (List._∷_ (
-  12,
-  Mut.mslice Of.R (Syntax.tyRef
-      Syntax.erased Syntax.mut Of.tyBy) 1,
-) (List._∷_ (
+      Syntax.ttnil))))))))))))),
+) (List._∷_ (10, Rows'.any-gone (Syntax.tyArray (Syntax.tyInt Syntax.w32) 3)) (List._∷_ (
+  11,
+  Rows'.any-gone (Syntax.tyRef Syntax.erased Syntax.mut
+      Of.tyBy),
+) (List._∷_ (12, Mut.mslice Of.R (Syntax.tyRef Syntax.erased Syntax.mut Of.tyBy) 1) (List._∷_ (
   13,
-  Rows'.any-gone (Syntax.tyRef Syntax.erased Syntax.mut (Syntax.tyArray (Syntax.tyArray (Syntax.tyInt Syntax.w32) 3) 256)),
+  Rows'.any-gone (Syntax.tyRef Syntax.erased Syntax.mut
+      (Syntax.tyArray (Syntax.tyArray (Syntax.tyInt Syntax.w32) 3) 256)),
 ) (List._∷_ (
   14,
-  Mut.mslice (Array'.Array (Referent.rtF (Referent.fInt Syntax.w32)) 3) (Syntax.tyRef Syntax.erased Syntax.mut (Syntax.tyArray (Syntax.tyInt Syntax.w32) 3)) 2,
+  Mut.mslice (Array'.Array (Referent.rtF (Referent.fInt Syntax.w32)) 3) (Syntax.tyRef
+      Syntax.erased Syntax.mut (Syntax.tyArray (Syntax.tyInt Syntax.w32) 3)) 2,
 ) (List._∷_ (15, Rows'.any-gone (Syntax.tyArray (Syntax.tyInt Syntax.w32) 3)) List.[])))))))))))))))
 
 abbrev pub t22 : List.List Row.Entry
@@ -1449,90 +1427,461 @@ abbrev pub t23 : List.List Row.Entry
 t23 = List._∷_ (0, Rows'.whole (Declared.row Inserted.the-type)) (List._∷_ (
   1,
   Rows'.any-gone (Syntax.tyStruct (List._∷_ 103 (List._∷_ 114 (List._∷_ 101 (List._∷_ 101 (List._∷_
-      110 (List._∷_ 119 (List._∷_ 97 (List._∷_ 108 (List._∷_ 100 (List._∷_ 95 (List._∷_ 107 (List._∷_ 104 (List._∷_ 97 (List._∷_ 110 (List._∷_ 110 (List._∷_ 97 (List._∷_ 58 (List._∷_
-      58 (List._∷_ 83 (List._∷_ 116 (List._∷_ 114 (List._∷_ 101 (List._∷_ 97 (List._∷_ 109 List.[])))))))))))))))))))))))) (Syntax.tcons (Syntax.tyStruct (List._∷_ 102 (List._∷_ 114
-      (List._∷_ 97 (List._∷_ 99 (List._∷_ 116 (List._∷_ 105 (List._∷_ 111 (List._∷_ 110 (List._∷_ 58 (List._∷_ 58 (List._∷_ 70 (List._∷_ 114 (List._∷_ 97 (List._∷_ 99 (List._∷_ 116
-      (List._∷_ 105 (List._∷_ 111 (List._∷_ 110 List.[])))))))))))))))))) (Syntax.tcons (Syntax.tyInt Syntax.w32) (Syntax.tcons (Syntax.tyInt Syntax.w32) Syntax.tnil))) (Syntax.tcons
-      (Syntax.tyInt Syntax.w32) (Syntax.tcons (Syntax.tyInt Syntax.w32) Syntax.tnil)))),
-) (List._∷_ (
-  2,
-  Relend.mslice-owed Of.R (Syntax.tyRef (Syntax.named 0) Syntax.mut Of.tyBy) 0
-      1 Row.off,
-) (List._∷_ (3, Rows'.sc-here (Row.sInt Syntax.w32)) (List._∷_ (4, Rows'.sc-here (Row.sInt Syntax.w64)) (List._∷_ (5, Rows'.sc-here (Row.sInt Syntax.w64))
-    (List._∷_ (6, Rows.arr-owed (Array'.Array (Referent.rtF (Referent.fInt Syntax.w32)) 3) 256 2) (List._∷_ (
-      7,
-      Rows'.any-gone (Syntax.tyArray (Syntax.tyArray (Syntax.tyInt
-          Syntax.w32) 3) 4096),
-    ) (List._∷_ (8, Rows'.any-gone Syntax.tyBool) (List._∷_ (
+      110 (List._∷_ 119 (List._∷_ 97 (List._∷_ 108 (List._∷_ 100 (List._∷_ 95 (List._∷_ 107 (List._∷_ 104 (List._∷_ 97 (List._∷_ 110 (List._∷_ 110 (List._∷_ 97 (List._∷_ 95 (List._∷_
+      115 (List._∷_ 116 (List._∷_ 101 (List._∷_ 112 (List._∷_ 115 (List._∷_ 58 (List._∷_ 58 (List._∷_ 83 (List._∷_ 116 (List._∷_ 114 (List._∷_ 101 (List._∷_ 97 (List._∷_ 109
+      List.[])))))))))))))))))))))))))))))) (Syntax.tcons (Syntax.tyStruct (List._∷_ 102 (List._∷_ 114 (List._∷_ 97 (List._∷_ 99 (List._∷_ 116 (List._∷_ 105 (List._∷_ 111 (List._∷_
+      110 (List._∷_ 58 (List._∷_ 58 (List._∷_ 70 (List._∷_ 114 (List._∷_ 97 (List._∷_ 99 (List._∷_ 116 (List._∷_ 105 (List._∷_ 111 (List._∷_ 110 List.[]))))))))))))))))))
+      (Syntax.tcons (Syntax.tyInt Syntax.w32) (Syntax.tcons (Syntax.tyInt Syntax.w32) Syntax.tnil))) (Syntax.tcons (Syntax.tyInt Syntax.w32) (Syntax.tcons (Syntax.tyInt Syntax.w32)
+      Syntax.tnil)))),
+) (List._∷_ (2, Relend.mslice-owed Of.R (Syntax.tyRef (Syntax.named 0) Syntax.mut Of.tyBy) 0 1 Row.off) (List._∷_ (3, Rows'.sc-here (Row.sInt Syntax.w32))
+    (List._∷_ (4, Rows'.sc-here (Row.sInt Syntax.w64)) (List._∷_ (5, Rows'.sc-here (Row.sInt Syntax.w64)) (List._∷_ (
+      6,
+      Rows.arr-owed (Array'.Array (Referent.rtF (Referent.fInt
+          Syntax.w32)) 3) 256 2,
+    ) (List._∷_ (7, Rows'.any-gone (Syntax.tyArray (Syntax.tyArray (Syntax.tyInt Syntax.w32) 3) 4096)) (List._∷_ (8, Rows'.any-gone Syntax.tyBool)
+    (List._∷_ (
       9,
-      Rows'.any-gone (Syntax.tyEnum (List._∷_ 114 (List._∷_ 101 (List._∷_ 102 (List._∷_ 117
-          (List._∷_ 115 (List._∷_ 97 (List._∷_ 108 (List._∷_ 58 (List._∷_ 58 (List._∷_ 82 (List._∷_ 101 (List._∷_ 102 (List._∷_ 117 (List._∷_ 115 (List._∷_ 97 (List._∷_ 108
-          List.[])))))))))))))))) (Syntax.ttcons Syntax.tnil (Syntax.ttcons Syntax.tnil (Syntax.ttcons Syntax.tnil (Syntax.ttcons Syntax.tnil (Syntax.ttcons Syntax.tnil (Syntax.ttcons
-          Syntax.tnil (Syntax.ttcons Syntax.tnil (Syntax.ttcons Syntax.tnil (Syntax.ttcons Syntax.tnil (Syntax.ttcons Syntax.tnil (Syntax.ttcons Syntax.tnil (Syntax.ttcons Syntax.tnil
-          Syntax.ttnil))))))))))))),
-    ) (List._∷_ (10, Rows'.any-gone (Syntax.tyArray (Syntax.tyInt Syntax.w32) 3)) (List._∷_ (
-      11,
-      Rows'.any-gone (Syntax.tyRef Syntax.erased Syntax.mut
-          Of.tyBy),
-    ) (List._∷_ (12, Mut.msleft Of.R (Syntax.tyRef Syntax.erased Syntax.mut Of.tyBy)) (List._∷_ (
-      13,
-      Rows'.any-gone (Syntax.tyRef Syntax.erased Syntax.mut
-          (Syntax.tyArray (Syntax.tyArray (Syntax.tyInt Syntax.w32) 3) 256)),
+      Rows'.any-gone (Syntax.tyEnum (List._∷_ 114 (List._∷_ 101 (List._∷_ 102 (List._∷_ 117 (List._∷_ 115 (List._∷_ 97 (List._∷_ 108 (List._∷_ 58 (List._∷_ 58
+          (List._∷_ 82 (List._∷_ 101 (List._∷_ 102 (List._∷_ 117 (List._∷_ 115 (List._∷_ 97 (List._∷_ 108 List.[])))))))))))))))) (Syntax.ttcons Syntax.tnil (Syntax.ttcons Syntax.tnil
+          (Syntax.ttcons Syntax.tnil (Syntax.ttcons Syntax.tnil (Syntax.ttcons Syntax.tnil (Syntax.ttcons Syntax.tnil (Syntax.ttcons Syntax.tnil (Syntax.ttcons Syntax.tnil (Syntax.ttcons
+          Syntax.tnil (Syntax.ttcons Syntax.tnil (Syntax.ttcons Syntax.tnil (Syntax.ttcons Syntax.tnil Syntax.ttnil))))))))))))),
     ) (List._∷_ (
+      10,
+      Rows'.any-gone (Syntax.tyArray
+          (Syntax.tyInt Syntax.w32) 3),
+    ) (List._∷_ (11, Rows'.any-gone (Syntax.tyRef Syntax.erased Syntax.mut Of.tyBy)) (List._∷_ (
+      12,
+      Mut.msleft Of.R (Syntax.tyRef Syntax.erased
+          Syntax.mut Of.tyBy),
+    ) (List._∷_ (13, Rows'.any-gone (Syntax.tyRef Syntax.erased Syntax.mut (Syntax.tyArray (Syntax.tyArray (Syntax.tyInt Syntax.w32) 3) 256))) (List._∷_ (
       14,
-      Mut.msleft (Array'.Array (Referent.rtF (Referent.fInt Syntax.w32)) 3) (Syntax.tyRef
-          Syntax.erased Syntax.mut (Syntax.tyArray (Syntax.tyInt Syntax.w32) 3)),
-    ) (List._∷_ (15, Rows'.any-gone (Syntax.tyArray (Syntax.tyInt Syntax.w32) 3)) List.[])))))))))))))))
+      Mut.msleft (Array'.Array (Referent.rtF (Referent.fInt Syntax.w32)) 3) (Syntax.tyRef Syntax.erased Syntax.mut (Syntax.tyArray (Syntax.tyInt Syntax.w32) 3)),
+    ) (List._∷_ (
+      15,
+      Rows'.any-gone (Syntax.tyArray (Syntax.tyInt Syntax.w32) 3),
+    ) List.[])))))))))))))))
 
 abbrev pub t24 : List.List Row.Entry
 t24 = List._∷_ (0, Rows'.whole (Declared.row Inserted.the-type)) (List._∷_ (
   1,
   Rows'.any-gone (Syntax.tyStruct (List._∷_ 103 (List._∷_ 114 (List._∷_ 101 (List._∷_ 101 (List._∷_
-      110 (List._∷_ 119 (List._∷_ 97 (List._∷_ 108 (List._∷_ 100 (List._∷_ 95 (List._∷_ 107 (List._∷_ 104 (List._∷_ 97 (List._∷_ 110 (List._∷_ 110 (List._∷_ 97 (List._∷_ 58 (List._∷_
-      58 (List._∷_ 83 (List._∷_ 116 (List._∷_ 114 (List._∷_ 101 (List._∷_ 97 (List._∷_ 109 List.[])))))))))))))))))))))))) (Syntax.tcons (Syntax.tyStruct (List._∷_ 102 (List._∷_ 114
-      (List._∷_ 97 (List._∷_ 99 (List._∷_ 116 (List._∷_ 105 (List._∷_ 111 (List._∷_ 110 (List._∷_ 58 (List._∷_ 58 (List._∷_ 70 (List._∷_ 114 (List._∷_ 97 (List._∷_ 99 (List._∷_ 116
-      (List._∷_ 105 (List._∷_ 111 (List._∷_ 110 List.[])))))))))))))))))) (Syntax.tcons (Syntax.tyInt Syntax.w32) (Syntax.tcons (Syntax.tyInt Syntax.w32) Syntax.tnil))) (Syntax.tcons
-      (Syntax.tyInt Syntax.w32) (Syntax.tcons (Syntax.tyInt Syntax.w32) Syntax.tnil)))),
-) (List._∷_ (2, Mut.mslice Of.R (Syntax.tyRef (Syntax.named 0) Syntax.mut Of.tyBy) 0)
-    (List._∷_ (3, Rows'.sc-here (Row.sInt Syntax.w32)) (List._∷_ (4, Rows'.sc-here (Row.sInt Syntax.w64)) (List._∷_ (5, Rows'.sc-here (Row.sInt Syntax.w64)) (List._∷_ (
-      6,
-      Rows.arr-owed (Array'.Array (Referent.rtF (Referent.fInt Syntax.w32)) 3) 256 2,
-    ) (List._∷_ (
-      7,
-      Rows'.any-gone (Syntax.tyArray (Syntax.tyArray (Syntax.tyInt Syntax.w32) 3)
-          4096),
-    ) (List._∷_ (8, Rows'.any-gone Syntax.tyBool) (List._∷_ (
-      9,
-      Rows'.any-gone (Syntax.tyEnum (List._∷_ 114 (List._∷_ 101 (List._∷_ 102 (List._∷_ 117 (List._∷_ 115
-          (List._∷_ 97 (List._∷_ 108 (List._∷_ 58 (List._∷_ 58 (List._∷_ 82 (List._∷_ 101 (List._∷_ 102 (List._∷_ 117 (List._∷_ 115 (List._∷_ 97 (List._∷_ 108 List.[]))))))))))))))))
-          (Syntax.ttcons Syntax.tnil (Syntax.ttcons Syntax.tnil (Syntax.ttcons Syntax.tnil (Syntax.ttcons Syntax.tnil (Syntax.ttcons Syntax.tnil (Syntax.ttcons Syntax.tnil (Syntax.ttcons
-          Syntax.tnil (Syntax.ttcons Syntax.tnil (Syntax.ttcons Syntax.tnil (Syntax.ttcons Syntax.tnil (Syntax.ttcons Syntax.tnil (Syntax.ttcons Syntax.tnil Syntax.ttnil))))))))))))),
-    )
-    (List._∷_ (10, Rows'.any-gone (Syntax.tyArray (Syntax.tyInt Syntax.w32) 3)) (List._∷_ (11, Rows'.any-gone (Syntax.tyRef Syntax.erased Syntax.mut Of.tyBy)) (List._∷_ (
-      12,
-      Rows'.any-gone (Syntax.tyStruct (List._∷_ 38 (List._∷_ 91 (List._∷_ 93 List.[]))) (Syntax.tcons (Syntax.tyRef Syntax.erased Syntax.mut Of.tyBy) (Syntax.tcons (Syntax.tyInt
-          Syntax.w64) Syntax.tnil))),
-    ) (List._∷_ (13, Rows'.any-gone (Syntax.tyRef Syntax.erased Syntax.mut (Syntax.tyArray (Syntax.tyArray (Syntax.tyInt Syntax.w32) 3) 256)))
-    (List._∷_ (14, Mut.msleft (Array'.Array (Referent.rtF (Referent.fInt Syntax.w32)) 3) (Syntax.tyRef Syntax.erased Syntax.mut (Syntax.tyArray (Syntax.tyInt Syntax.w32) 3)))
-    (List._∷_ (15, Rows'.any-gone (Syntax.tyArray (Syntax.tyInt Syntax.w32) 3)) List.[])))))))))))))))
+      110 (List._∷_ 119 (List._∷_ 97 (List._∷_ 108 (List._∷_ 100 (List._∷_ 95 (List._∷_ 107 (List._∷_ 104 (List._∷_ 97 (List._∷_ 110 (List._∷_ 110 (List._∷_ 97 (List._∷_ 95 (List._∷_
+      115 (List._∷_ 116 (List._∷_ 101 (List._∷_ 112 (List._∷_ 115 (List._∷_ 58 (List._∷_ 58 (List._∷_ 83 (List._∷_ 116 (List._∷_ 114 (List._∷_ 101 (List._∷_ 97 (List._∷_ 109
+      List.[])))))))))))))))))))))))))))))) (Syntax.tcons (Syntax.tyStruct (List._∷_ 102 (List._∷_ 114 (List._∷_ 97 (List._∷_ 99 (List._∷_ 116 (List._∷_ 105 (List._∷_ 111 (List._∷_
+      110 (List._∷_ 58 (List._∷_ 58 (List._∷_ 70 (List._∷_ 114 (List._∷_ 97 (List._∷_ 99 (List._∷_ 116 (List._∷_ 105 (List._∷_ 111 (List._∷_ 110 List.[]))))))))))))))))))
+      (Syntax.tcons (Syntax.tyInt Syntax.w32) (Syntax.tcons (Syntax.tyInt Syntax.w32) Syntax.tnil))) (Syntax.tcons (Syntax.tyInt Syntax.w32) (Syntax.tcons (Syntax.tyInt Syntax.w32)
+      Syntax.tnil)))),
+) (List._∷_ (2, Mut.mslice Of.R (Syntax.tyRef (Syntax.named 0) Syntax.mut Of.tyBy) 0) (List._∷_ (3, Rows'.sc-here (Row.sInt Syntax.w32)) (List._∷_ (
+  4,
+  Rows'.sc-here (Row.sInt Syntax.w64),
+) (List._∷_ (5, Rows'.sc-here (Row.sInt Syntax.w64)) (List._∷_ (
+  6,
+  Rows.arr-owed (Array'.Array (Referent.rtF (Referent.fInt Syntax.w32))
+      3) 256 2,
+) (List._∷_ (7, Rows'.any-gone (Syntax.tyArray (Syntax.tyArray (Syntax.tyInt Syntax.w32) 3) 4096)) (List._∷_ (8, Rows'.any-gone Syntax.tyBool) (List._∷_ (
+  9,
+  Rows'.any-gone (Syntax.tyEnum (List._∷_ 114 (List._∷_ 101 (List._∷_ 102 (List._∷_ 117 (List._∷_ 115 (List._∷_ 97 (List._∷_ 108 (List._∷_ 58 (List._∷_ 58 (List._∷_ 82 (List._∷_
+      101 (List._∷_ 102 (List._∷_ 117 (List._∷_ 115 (List._∷_ 97 (List._∷_ 108 List.[])))))))))))))))) (Syntax.ttcons Syntax.tnil (Syntax.ttcons Syntax.tnil (Syntax.ttcons
+      Syntax.tnil (Syntax.ttcons Syntax.tnil (Syntax.ttcons Syntax.tnil (Syntax.ttcons Syntax.tnil (Syntax.ttcons Syntax.tnil (Syntax.ttcons Syntax.tnil (Syntax.ttcons Syntax.tnil
+      (Syntax.ttcons Syntax.tnil (Syntax.ttcons Syntax.tnil (Syntax.ttcons Syntax.tnil Syntax.ttnil))))))))))))),
+) (List._∷_ (
+  10,
+  Rows'.any-gone (Syntax.tyArray (Syntax.tyInt
+      Syntax.w32) 3),
+) (List._∷_ (11, Rows'.any-gone (Syntax.tyRef Syntax.erased Syntax.mut Of.tyBy)) (List._∷_ (
+  12,
+  Rows'.any-gone (Syntax.tyStruct (List._∷_ 38 (List._∷_ 91
+      (List._∷_ 93 List.[]))) (Syntax.tcons (Syntax.tyRef Syntax.erased Syntax.mut Of.tyBy) (Syntax.tcons (Syntax.tyInt Syntax.w64) Syntax.tnil))),
+) (List._∷_ (
+  13,
+  Rows'.any-gone
+      (Syntax.tyRef Syntax.erased Syntax.mut (Syntax.tyArray (Syntax.tyArray (Syntax.tyInt Syntax.w32) 3) 256)),
+) (List._∷_ (
+  14,
+  Mut.msleft (Array'.Array (Referent.rtF
+      (Referent.fInt Syntax.w32)) 3) (Syntax.tyRef Syntax.erased Syntax.mut (Syntax.tyArray (Syntax.tyInt Syntax.w32) 3)),
+) (List._∷_ (
+  15,
+  Rows'.any-gone (Syntax.tyArray
+      (Syntax.tyInt Syntax.w32) 3),
+) List.[])))))))))))))))
 
 abbrev pub t25 : List.List Row.Entry
 t25 = List._∷_ (0, Rows'.whole (Declared.row Inserted.the-type)) (List._∷_ (
   1,
   Rows'.any-gone (Syntax.tyStruct (List._∷_ 103 (List._∷_ 114 (List._∷_ 101 (List._∷_ 101 (List._∷_
-      110 (List._∷_ 119 (List._∷_ 97 (List._∷_ 108 (List._∷_ 100 (List._∷_ 95 (List._∷_ 107 (List._∷_ 104 (List._∷_ 97 (List._∷_ 110 (List._∷_ 110 (List._∷_ 97 (List._∷_ 58 (List._∷_
-      58 (List._∷_ 83 (List._∷_ 116 (List._∷_ 114 (List._∷_ 101 (List._∷_ 97 (List._∷_ 109 List.[])))))))))))))))))))))))) (Syntax.tcons (Syntax.tyStruct (List._∷_ 102 (List._∷_ 114
-      (List._∷_ 97 (List._∷_ 99 (List._∷_ 116 (List._∷_ 105 (List._∷_ 111 (List._∷_ 110 (List._∷_ 58 (List._∷_ 58 (List._∷_ 70 (List._∷_ 114 (List._∷_ 97 (List._∷_ 99 (List._∷_ 116
-      (List._∷_ 105 (List._∷_ 111 (List._∷_ 110 List.[])))))))))))))))))) (Syntax.tcons (Syntax.tyInt Syntax.w32) (Syntax.tcons (Syntax.tyInt Syntax.w32) Syntax.tnil))) (Syntax.tcons
-      (Syntax.tyInt Syntax.w32) (Syntax.tcons (Syntax.tyInt Syntax.w32) Syntax.tnil)))),
-) (List._∷_ (2, Mut.mslice Of.R (Syntax.tyRef (Syntax.named 0) Syntax.mut Of.tyBy) 0)
-    (List._∷_ (3, Rows'.sc-here (Row.sInt Syntax.w32)) (List._∷_ (4, Rows'.sc-here (Row.sInt Syntax.w64)) (List._∷_ (5, Rows'.sc-here (Row.sInt Syntax.w64)) (List._∷_ (
-      6,
-      Rows.arrF (Array'.Array (Referent.rtF (Referent.fInt Syntax.w32)) 3) 256 0,
-    ) (List._∷_ (
-      7,
-      Rows'.any-gone (Syntax.tyArray (Syntax.tyArray (Syntax.tyInt Syntax.w32) 3) 4096),
-    ) (List._∷_ (8, Rows'.any-gone Syntax.tyBool) (List._∷_ (
+      110 (List._∷_ 119 (List._∷_ 97 (List._∷_ 108 (List._∷_ 100 (List._∷_ 95 (List._∷_ 107 (List._∷_ 104 (List._∷_ 97 (List._∷_ 110 (List._∷_ 110 (List._∷_ 97 (List._∷_ 95 (List._∷_
+      115 (List._∷_ 116 (List._∷_ 101 (List._∷_ 112 (List._∷_ 115 (List._∷_ 58 (List._∷_ 58 (List._∷_ 83 (List._∷_ 116 (List._∷_ 114 (List._∷_ 101 (List._∷_ 97 (List._∷_ 109
+      List.[])))))))))))))))))))))))))))))) (Syntax.tcons (Syntax.tyStruct (List._∷_ 102 (List._∷_ 114 (List._∷_ 97 (List._∷_ 99 (List._∷_ 116 (List._∷_ 105 (List._∷_ 111 (List._∷_
+      110 (List._∷_ 58 (List._∷_ 58 (List._∷_ 70 (List._∷_ 114 (List._∷_ 97 (List._∷_ 99 (List._∷_ 116 (List._∷_ 105 (List._∷_ 111 (List._∷_ 110 List.[]))))))))))))))))))
+      (Syntax.tcons (Syntax.tyInt Syntax.w32) (Syntax.tcons (Syntax.tyInt Syntax.w32) Syntax.tnil))) (Syntax.tcons (Syntax.tyInt Syntax.w32) (Syntax.tcons (Syntax.tyInt Syntax.w32)
+      Syntax.tnil)))),
+) (List._∷_ (2, Mut.mslice Of.R (Syntax.tyRef (Syntax.named 0) Syntax.mut Of.tyBy) 0) (List._∷_ (3, Rows'.sc-here (Row.sInt Syntax.w32)) (List._∷_ (
+  4,
+  Rows'.sc-here (Row.sInt Syntax.w64),
+) (List._∷_ (5, Rows'.sc-here (Row.sInt Syntax.w64)) (List._∷_ (
+  6,
+  Rows.arrF (Array'.Array (Referent.rtF (Referent.fInt Syntax.w32)) 3)
+      256 0,
+) (List._∷_ (7, Rows'.any-gone (Syntax.tyArray (Syntax.tyArray (Syntax.tyInt Syntax.w32) 3) 4096)) (List._∷_ (8, Rows'.any-gone Syntax.tyBool) (List._∷_ (
+  9,
+  Rows'.any-gone (Syntax.tyEnum (List._∷_ 114 (List._∷_ 101 (List._∷_ 102 (List._∷_ 117 (List._∷_ 115 (List._∷_ 97 (List._∷_ 108 (List._∷_ 58 (List._∷_ 58 (List._∷_ 82 (List._∷_
+      101 (List._∷_ 102 (List._∷_ 117 (List._∷_ 115 (List._∷_ 97 (List._∷_ 108 List.[])))))))))))))))) (Syntax.ttcons Syntax.tnil (Syntax.ttcons Syntax.tnil (Syntax.ttcons
+      Syntax.tnil (Syntax.ttcons Syntax.tnil (Syntax.ttcons Syntax.tnil (Syntax.ttcons Syntax.tnil (Syntax.ttcons Syntax.tnil (Syntax.ttcons Syntax.tnil (Syntax.ttcons Syntax.tnil
+      (Syntax.ttcons Syntax.tnil (Syntax.ttcons Syntax.tnil (Syntax.ttcons Syntax.tnil Syntax.ttnil))))))))))))),
+) (List._∷_ (
+  10,
+  Rows'.any-gone (Syntax.tyArray (Syntax.tyInt
+      Syntax.w32) 3),
+) (List._∷_ (11, Rows'.any-gone (Syntax.tyRef Syntax.erased Syntax.mut Of.tyBy)) (List._∷_ (
+  12,
+  Rows'.any-gone (Syntax.tyStruct (List._∷_ 38 (List._∷_ 91
+      (List._∷_ 93 List.[]))) (Syntax.tcons (Syntax.tyRef Syntax.erased Syntax.mut Of.tyBy) (Syntax.tcons (Syntax.tyInt Syntax.w64) Syntax.tnil))),
+) (List._∷_ (
+  13,
+  Rows'.any-gone
+      (Syntax.tyRef Syntax.erased Syntax.mut (Syntax.tyArray (Syntax.tyArray (Syntax.tyInt Syntax.w32) 3) 256)),
+) (List._∷_ (
+  14,
+  Rows'.any-gone (Syntax.tyStruct (List._∷_ 38
+      (List._∷_ 91 (List._∷_ 93 List.[]))) (Syntax.tcons (Syntax.tyRef Syntax.erased Syntax.mut (Syntax.tyArray (Syntax.tyInt Syntax.w32) 3)) (Syntax.tcons (Syntax.tyInt Syntax.w64)
+      Syntax.tnil))),
+) (List._∷_ (15, Rows'.any-gone (Syntax.tyArray (Syntax.tyInt Syntax.w32) 3)) List.[])))))))))))))))
+
+abbrev pub t26 : List.List Row.Entry
+t26 = List._∷_ (0, Rows'.whole (Declared.row Inserted.the-type)) (List._∷_ (
+  1,
+  Rows'.any-gone (Syntax.tyStruct (List._∷_ 103 (List._∷_ 114 (List._∷_ 101 (List._∷_ 101 (List._∷_
+      110 (List._∷_ 119 (List._∷_ 97 (List._∷_ 108 (List._∷_ 100 (List._∷_ 95 (List._∷_ 107 (List._∷_ 104 (List._∷_ 97 (List._∷_ 110 (List._∷_ 110 (List._∷_ 97 (List._∷_ 95 (List._∷_
+      115 (List._∷_ 116 (List._∷_ 101 (List._∷_ 112 (List._∷_ 115 (List._∷_ 58 (List._∷_ 58 (List._∷_ 83 (List._∷_ 116 (List._∷_ 114 (List._∷_ 101 (List._∷_ 97 (List._∷_ 109
+      List.[])))))))))))))))))))))))))))))) (Syntax.tcons (Syntax.tyStruct (List._∷_ 102 (List._∷_ 114 (List._∷_ 97 (List._∷_ 99 (List._∷_ 116 (List._∷_ 105 (List._∷_ 111 (List._∷_
+      110 (List._∷_ 58 (List._∷_ 58 (List._∷_ 70 (List._∷_ 114 (List._∷_ 97 (List._∷_ 99 (List._∷_ 116 (List._∷_ 105 (List._∷_ 111 (List._∷_ 110 List.[]))))))))))))))))))
+      (Syntax.tcons (Syntax.tyInt Syntax.w32) (Syntax.tcons (Syntax.tyInt Syntax.w32) Syntax.tnil))) (Syntax.tcons (Syntax.tyInt Syntax.w32) (Syntax.tcons (Syntax.tyInt Syntax.w32)
+      Syntax.tnil)))),
+) (List._∷_ (2, Mut.mslice Of.R (Syntax.tyRef (Syntax.named 0) Syntax.mut Of.tyBy) 0) (List._∷_ (3, Rows'.sc-here (Row.sInt Syntax.w32)) (List._∷_ (
+  4,
+  Rows'.sc-here (Row.sInt Syntax.w64),
+) (List._∷_ (5, Rows'.sc-here (Row.sInt Syntax.w64)) (List._∷_ (
+  6,
+  Rows'.any-gone (Syntax.tyArray (Syntax.tyArray (Syntax.tyInt
+      Syntax.w32) 3) 256),
+) (List._∷_ (7, Rows'.any-gone (Syntax.tyArray (Syntax.tyArray (Syntax.tyInt Syntax.w32) 3) 4096)) (List._∷_ (8, Rows'.any-gone Syntax.tyBool) (List._∷_ (
+  9,
+  Rows'.any-gone (Syntax.tyEnum (List._∷_ 114 (List._∷_ 101 (List._∷_ 102 (List._∷_ 117 (List._∷_ 115 (List._∷_ 97 (List._∷_ 108 (List._∷_ 58 (List._∷_ 58 (List._∷_ 82
+      (List._∷_ 101 (List._∷_ 102 (List._∷_ 117 (List._∷_ 115 (List._∷_ 97 (List._∷_ 108 List.[])))))))))))))))) (Syntax.ttcons Syntax.tnil (Syntax.ttcons Syntax.tnil (Syntax.ttcons
+      Syntax.tnil (Syntax.ttcons Syntax.tnil (Syntax.ttcons Syntax.tnil (Syntax.ttcons Syntax.tnil (Syntax.ttcons Syntax.tnil (Syntax.ttcons Syntax.tnil (Syntax.ttcons Syntax.tnil
+      (Syntax.ttcons Syntax.tnil (Syntax.ttcons Syntax.tnil (Syntax.ttcons Syntax.tnil Syntax.ttnil))))))))))))),
+) (List._∷_ (
+  10,
+  Rows'.any-gone (Syntax.tyArray (Syntax.tyInt
+      Syntax.w32) 3),
+) (List._∷_ (11, Rows'.any-gone (Syntax.tyRef Syntax.erased Syntax.mut Of.tyBy)) (List._∷_ (
+  12,
+  Rows'.any-gone (Syntax.tyStruct (List._∷_ 38 (List._∷_ 91
+      (List._∷_ 93 List.[]))) (Syntax.tcons (Syntax.tyRef Syntax.erased Syntax.mut Of.tyBy) (Syntax.tcons (Syntax.tyInt Syntax.w64) Syntax.tnil))),
+) (List._∷_ (
+  13,
+  Rows'.any-gone
+      (Syntax.tyRef Syntax.erased Syntax.mut (Syntax.tyArray (Syntax.tyArray (Syntax.tyInt Syntax.w32) 3) 256)),
+) (List._∷_ (
+  14,
+  Rows'.any-gone (Syntax.tyStruct (List._∷_ 38
+      (List._∷_ 91 (List._∷_ 93 List.[]))) (Syntax.tcons (Syntax.tyRef Syntax.erased Syntax.mut (Syntax.tyArray (Syntax.tyInt Syntax.w32) 3)) (Syntax.tcons (Syntax.tyInt Syntax.w64)
+      Syntax.tnil))),
+) (List._∷_ (15, Rows'.any-gone (Syntax.tyArray (Syntax.tyInt Syntax.w32) 3)) List.[])))))))))))))))
+
+abbrev pub t27 : List.List Row.Entry
+t27 = List._∷_ (0, Rows'.whole (Declared.row Inserted.the-type)) (List._∷_ (
+  1,
+  Rows'.any-gone (Syntax.tyStruct (List._∷_ 103 (List._∷_ 114 (List._∷_ 101 (List._∷_ 101 (List._∷_
+      110 (List._∷_ 119 (List._∷_ 97 (List._∷_ 108 (List._∷_ 100 (List._∷_ 95 (List._∷_ 107 (List._∷_ 104 (List._∷_ 97 (List._∷_ 110 (List._∷_ 110 (List._∷_ 97 (List._∷_ 95 (List._∷_
+      115 (List._∷_ 116 (List._∷_ 101 (List._∷_ 112 (List._∷_ 115 (List._∷_ 58 (List._∷_ 58 (List._∷_ 83 (List._∷_ 116 (List._∷_ 114 (List._∷_ 101 (List._∷_ 97 (List._∷_ 109
+      List.[])))))))))))))))))))))))))))))) (Syntax.tcons (Syntax.tyStruct (List._∷_ 102 (List._∷_ 114 (List._∷_ 97 (List._∷_ 99 (List._∷_ 116 (List._∷_ 105 (List._∷_ 111 (List._∷_
+      110 (List._∷_ 58 (List._∷_ 58 (List._∷_ 70 (List._∷_ 114 (List._∷_ 97 (List._∷_ 99 (List._∷_ 116 (List._∷_ 105 (List._∷_ 111 (List._∷_ 110 List.[]))))))))))))))))))
+      (Syntax.tcons (Syntax.tyInt Syntax.w32) (Syntax.tcons (Syntax.tyInt Syntax.w32) Syntax.tnil))) (Syntax.tcons (Syntax.tyInt Syntax.w32) (Syntax.tcons (Syntax.tyInt Syntax.w32)
+      Syntax.tnil)))),
+) (List._∷_ (2, Mut.mslice Of.R (Syntax.tyRef (Syntax.named 0) Syntax.mut Of.tyBy) 0) (List._∷_ (3, Rows'.any-gone (Syntax.tyInt Syntax.w32)) (List._∷_ (
+  4,
+  Rows'.sc-here (Row.sInt Syntax.w64),
+) (List._∷_ (5, Rows'.sc-here (Row.sInt Syntax.w64)) (List._∷_ (
+  6,
+  Rows'.any-gone (Syntax.tyArray (Syntax.tyArray (Syntax.tyInt
+      Syntax.w32) 3) 256),
+) (List._∷_ (7, Rows'.any-gone (Syntax.tyArray (Syntax.tyArray (Syntax.tyInt Syntax.w32) 3) 4096)) (List._∷_ (8, Rows'.any-gone Syntax.tyBool) (List._∷_ (
+  9,
+  Rows'.any-gone (Syntax.tyEnum (List._∷_ 114 (List._∷_ 101 (List._∷_ 102 (List._∷_ 117 (List._∷_ 115 (List._∷_ 97 (List._∷_ 108 (List._∷_ 58 (List._∷_ 58 (List._∷_ 82
+      (List._∷_ 101 (List._∷_ 102 (List._∷_ 117 (List._∷_ 115 (List._∷_ 97 (List._∷_ 108 List.[])))))))))))))))) (Syntax.ttcons Syntax.tnil (Syntax.ttcons Syntax.tnil (Syntax.ttcons
+      Syntax.tnil (Syntax.ttcons Syntax.tnil (Syntax.ttcons Syntax.tnil (Syntax.ttcons Syntax.tnil (Syntax.ttcons Syntax.tnil (Syntax.ttcons Syntax.tnil (Syntax.ttcons Syntax.tnil
+      (Syntax.ttcons Syntax.tnil (Syntax.ttcons Syntax.tnil (Syntax.ttcons Syntax.tnil Syntax.ttnil))))))))))))),
+) (List._∷_ (
+  10,
+  Rows'.any-gone (Syntax.tyArray (Syntax.tyInt
+      Syntax.w32) 3),
+) (List._∷_ (11, Rows'.any-gone (Syntax.tyRef Syntax.erased Syntax.mut Of.tyBy)) (List._∷_ (
+  12,
+  Rows'.any-gone (Syntax.tyStruct (List._∷_ 38 (List._∷_ 91
+      (List._∷_ 93 List.[]))) (Syntax.tcons (Syntax.tyRef Syntax.erased Syntax.mut Of.tyBy) (Syntax.tcons (Syntax.tyInt Syntax.w64) Syntax.tnil))),
+) (List._∷_ (
+  13,
+  Rows'.any-gone
+      (Syntax.tyRef Syntax.erased Syntax.mut (Syntax.tyArray (Syntax.tyArray (Syntax.tyInt Syntax.w32) 3) 256)),
+) (List._∷_ (
+  14,
+  Rows'.any-gone (Syntax.tyStruct (List._∷_ 38
+      (List._∷_ 91 (List._∷_ 93 List.[]))) (Syntax.tcons (Syntax.tyRef Syntax.erased Syntax.mut (Syntax.tyArray (Syntax.tyInt Syntax.w32) 3)) (Syntax.tcons (Syntax.tyInt Syntax.w64)
+      Syntax.tnil))),
+) (List._∷_ (15, Rows'.any-gone (Syntax.tyArray (Syntax.tyInt Syntax.w32) 3)) List.[])))))))))))))))
+
+abbrev pub t28 : List.List Row.Entry
+t28 = List._∷_ (0, Rows'.whole (Declared.row Inserted.the-type)) (List._∷_ (
+  1,
+  Rows'.any-gone (Syntax.tyStruct (List._∷_ 103 (List._∷_ 114 (List._∷_ 101 (List._∷_ 101 (List._∷_
+      110 (List._∷_ 119 (List._∷_ 97 (List._∷_ 108 (List._∷_ 100 (List._∷_ 95 (List._∷_ 107 (List._∷_ 104 (List._∷_ 97 (List._∷_ 110 (List._∷_ 110 (List._∷_ 97 (List._∷_ 95 (List._∷_
+      115 (List._∷_ 116 (List._∷_ 101 (List._∷_ 112 (List._∷_ 115 (List._∷_ 58 (List._∷_ 58 (List._∷_ 83 (List._∷_ 116 (List._∷_ 114 (List._∷_ 101 (List._∷_ 97 (List._∷_ 109
+      List.[])))))))))))))))))))))))))))))) (Syntax.tcons (Syntax.tyStruct (List._∷_ 102 (List._∷_ 114 (List._∷_ 97 (List._∷_ 99 (List._∷_ 116 (List._∷_ 105 (List._∷_ 111 (List._∷_
+      110 (List._∷_ 58 (List._∷_ 58 (List._∷_ 70 (List._∷_ 114 (List._∷_ 97 (List._∷_ 99 (List._∷_ 116 (List._∷_ 105 (List._∷_ 111 (List._∷_ 110 List.[]))))))))))))))))))
+      (Syntax.tcons (Syntax.tyInt Syntax.w32) (Syntax.tcons (Syntax.tyInt Syntax.w32) Syntax.tnil))) (Syntax.tcons (Syntax.tyInt Syntax.w32) (Syntax.tcons (Syntax.tyInt Syntax.w32)
+      Syntax.tnil)))),
+) (List._∷_ (2, Mut.mslice Of.R (Syntax.tyRef (Syntax.named 0) Syntax.mut Of.tyBy) 0) (List._∷_ (3, Rows'.any-gone (Syntax.tyInt Syntax.w32)) (List._∷_ (
+  4,
+  Rows'.any-gone (Syntax.tyInt Syntax.w64),
+) (List._∷_ (5, Rows'.sc-here (Row.sInt Syntax.w64)) (List._∷_ (
+  6,
+  Rows'.any-gone (Syntax.tyArray (Syntax.tyArray (Syntax.tyInt
+      Syntax.w32) 3) 256),
+) (List._∷_ (7, Rows'.any-gone (Syntax.tyArray (Syntax.tyArray (Syntax.tyInt Syntax.w32) 3) 4096)) (List._∷_ (8, Rows'.any-gone Syntax.tyBool) (List._∷_ (
+  9,
+  Rows'.any-gone (Syntax.tyEnum (List._∷_ 114 (List._∷_ 101 (List._∷_ 102 (List._∷_ 117 (List._∷_ 115 (List._∷_ 97 (List._∷_ 108 (List._∷_ 58 (List._∷_ 58 (List._∷_ 82
+      (List._∷_ 101 (List._∷_ 102 (List._∷_ 117 (List._∷_ 115 (List._∷_ 97 (List._∷_ 108 List.[])))))))))))))))) (Syntax.ttcons Syntax.tnil (Syntax.ttcons Syntax.tnil (Syntax.ttcons
+      Syntax.tnil (Syntax.ttcons Syntax.tnil (Syntax.ttcons Syntax.tnil (Syntax.ttcons Syntax.tnil (Syntax.ttcons Syntax.tnil (Syntax.ttcons Syntax.tnil (Syntax.ttcons Syntax.tnil
+      (Syntax.ttcons Syntax.tnil (Syntax.ttcons Syntax.tnil (Syntax.ttcons Syntax.tnil Syntax.ttnil))))))))))))),
+) (List._∷_ (
+  10,
+  Rows'.any-gone (Syntax.tyArray (Syntax.tyInt
+      Syntax.w32) 3),
+) (List._∷_ (11, Rows'.any-gone (Syntax.tyRef Syntax.erased Syntax.mut Of.tyBy)) (List._∷_ (
+  12,
+  Rows'.any-gone (Syntax.tyStruct (List._∷_ 38 (List._∷_ 91
+      (List._∷_ 93 List.[]))) (Syntax.tcons (Syntax.tyRef Syntax.erased Syntax.mut Of.tyBy) (Syntax.tcons (Syntax.tyInt Syntax.w64) Syntax.tnil))),
+) (List._∷_ (
+  13,
+  Rows'.any-gone
+      (Syntax.tyRef Syntax.erased Syntax.mut (Syntax.tyArray (Syntax.tyArray (Syntax.tyInt Syntax.w32) 3) 256)),
+) (List._∷_ (
+  14,
+  Rows'.any-gone (Syntax.tyStruct (List._∷_ 38
+      (List._∷_ 91 (List._∷_ 93 List.[]))) (Syntax.tcons (Syntax.tyRef Syntax.erased Syntax.mut (Syntax.tyArray (Syntax.tyInt Syntax.w32) 3)) (Syntax.tcons (Syntax.tyInt Syntax.w64)
+      Syntax.tnil))),
+) (List._∷_ (15, Rows'.any-gone (Syntax.tyArray (Syntax.tyInt Syntax.w32) 3)) List.[])))))))))))))))
+
+abbrev pub t29 : List.List Row.Entry
+t29 = List._∷_ (
+  0,
+  Rows'.any-gone (Syntax.tyEnum (List._∷_ 103 (List._∷_ 114 (List._∷_ 101 (List._∷_ 101 (List._∷_ 110 (List._∷_ 119 (List._∷_ 97 (List._∷_ 108 (List._∷_ 100
+      (List._∷_ 95 (List._∷_ 107 (List._∷_ 104 (List._∷_ 97 (List._∷_ 110 (List._∷_ 110 (List._∷_ 97 (List._∷_ 58 (List._∷_ 58 (List._∷_ 73 (List._∷_ 110 (List._∷_ 115 (List._∷_ 101
+      (List._∷_ 114 (List._∷_ 116 (List._∷_ 101 (List._∷_ 100 List.[])))))))))))))))))))))))))) (Syntax.ttcons (Syntax.tcons (Syntax.tyStruct (List._∷_ 103 (List._∷_ 114 (List._∷_
+      101 (List._∷_ 101 (List._∷_ 110 (List._∷_ 119 (List._∷_ 97 (List._∷_ 108 (List._∷_ 100 (List._∷_ 95 (List._∷_ 107 (List._∷_ 104 (List._∷_ 97 (List._∷_ 110 (List._∷_ 110
+      (List._∷_ 97 (List._∷_ 95 (List._∷_ 115 (List._∷_ 116 (List._∷_ 101 (List._∷_ 112 (List._∷_ 115 (List._∷_ 58 (List._∷_ 58 (List._∷_ 83 (List._∷_ 116 (List._∷_ 114 (List._∷_ 101
+      (List._∷_ 97 (List._∷_ 109 List.[])))))))))))))))))))))))))))))) (Syntax.tcons (Syntax.tyStruct (List._∷_ 102 (List._∷_ 114 (List._∷_ 97 (List._∷_ 99 (List._∷_ 116 (List._∷_
+      105 (List._∷_ 111 (List._∷_ 110 (List._∷_ 58 (List._∷_ 58 (List._∷_ 70 (List._∷_ 114 (List._∷_ 97 (List._∷_ 99 (List._∷_ 116 (List._∷_ 105 (List._∷_ 111 (List._∷_ 110
+      List.[])))))))))))))))))) (Syntax.tcons (Syntax.tyInt Syntax.w32) (Syntax.tcons (Syntax.tyInt Syntax.w32) Syntax.tnil))) (Syntax.tcons (Syntax.tyInt Syntax.w32) (Syntax.tcons
+      (Syntax.tyInt Syntax.w32) Syntax.tnil)))) Syntax.tnil) (Syntax.ttcons (Syntax.tcons (Syntax.tyEnum (List._∷_ 114 (List._∷_ 101 (List._∷_ 102 (List._∷_ 117 (List._∷_ 115
+      (List._∷_ 97 (List._∷_ 108 (List._∷_ 58 (List._∷_ 58 (List._∷_ 82 (List._∷_ 101 (List._∷_ 102 (List._∷_ 117 (List._∷_ 115 (List._∷_ 97 (List._∷_ 108 List.[]))))))))))))))))
+      (Syntax.ttcons Syntax.tnil (Syntax.ttcons Syntax.tnil (Syntax.ttcons Syntax.tnil (Syntax.ttcons Syntax.tnil (Syntax.ttcons Syntax.tnil (Syntax.ttcons Syntax.tnil (Syntax.ttcons
+      Syntax.tnil (Syntax.ttcons Syntax.tnil (Syntax.ttcons Syntax.tnil (Syntax.ttcons Syntax.tnil (Syntax.ttcons Syntax.tnil (Syntax.ttcons Syntax.tnil Syntax.ttnil)))))))))))))
+      Syntax.tnil) Syntax.ttnil))),
+) (List._∷_ (1, Rows'.whole (Declared'.row Stream.the-type)) (List._∷_ (
+  2,
+  Mut.mslice Of.R (Syntax.tyRef (Syntax.named 0) Syntax.mut Of.tyBy) 0,
+) (List._∷_ (3, Rows'.sc-here (Row.sInt Syntax.w32)) (List._∷_ (4, Rows'.sc-here (Row.sInt Syntax.w64)) (List._∷_ (5, Rows'.sc-here (Row.sInt Syntax.w64)) (List._∷_ (
+  6,
+  Rows'.any-gone (Syntax.tyArray (Syntax.tyArray (Syntax.tyInt Syntax.w32) 3) 256),
+) (List._∷_ (
+  7,
+  Rows'.any-gone (Syntax.tyArray (Syntax.tyArray (Syntax.tyInt Syntax.w32) 3)
+      4096),
+) (List._∷_ (8, Rows'.any-gone Syntax.tyBool) (List._∷_ (
+  9,
+  Rows'.any-gone (Syntax.tyEnum (List._∷_ 114 (List._∷_ 101 (List._∷_ 102 (List._∷_ 117 (List._∷_ 115
+      (List._∷_ 97 (List._∷_ 108 (List._∷_ 58 (List._∷_ 58 (List._∷_ 82 (List._∷_ 101 (List._∷_ 102 (List._∷_ 117 (List._∷_ 115 (List._∷_ 97 (List._∷_ 108 List.[]))))))))))))))))
+      (Syntax.ttcons Syntax.tnil (Syntax.ttcons Syntax.tnil (Syntax.ttcons Syntax.tnil (Syntax.ttcons Syntax.tnil (Syntax.ttcons Syntax.tnil (Syntax.ttcons Syntax.tnil (Syntax.ttcons
+      Syntax.tnil (Syntax.ttcons Syntax.tnil (Syntax.ttcons Syntax.tnil (Syntax.ttcons Syntax.tnil (Syntax.ttcons Syntax.tnil (Syntax.ttcons Syntax.tnil Syntax.ttnil))))))))))))),
+)
+    (List._∷_ (10, Rows'.any-gone (Syntax.tyArray (Syntax.tyInt Syntax.w32) 3)) (List._∷_ (11, Rows'.any-gone (Syntax.tyRef Syntax.erased Syntax.mut Of.tyBy)) (List._∷_ (
+      12,
+      Rows'.any-gone (Syntax.tyStruct (List._∷_ 38 (List._∷_ 91 (List._∷_ 93 List.[]))) (Syntax.tcons (Syntax.tyRef Syntax.erased Syntax.mut Of.tyBy) (Syntax.tcons (Syntax.tyInt
+          Syntax.w64) Syntax.tnil))),
+    ) (List._∷_ (13, Rows'.any-gone (Syntax.tyRef Syntax.erased Syntax.mut (Syntax.tyArray (Syntax.tyArray (Syntax.tyInt Syntax.w32) 3) 256)))
+    (List._∷_ (
+      14,
+      Rows'.any-gone (Syntax.tyStruct (List._∷_ 38 (List._∷_ 91 (List._∷_ 93 List.[]))) (Syntax.tcons (Syntax.tyRef Syntax.erased Syntax.mut (Syntax.tyArray
+          (Syntax.tyInt Syntax.w32) 3)) (Syntax.tcons (Syntax.tyInt Syntax.w64) Syntax.tnil))),
+    ) (List._∷_ (15, Rows'.whole (Array'.Array (Referent.rtF (Referent.fInt Syntax.w32)) 3))
+    List.[])))))))))))))))
+
+abbrev pub t30 : List.List Row.Entry
+t30 = List._∷_ (
+  0,
+  Rows'.any-gone (Syntax.tyEnum (List._∷_ 103 (List._∷_ 114 (List._∷_ 101 (List._∷_ 101 (List._∷_ 110 (List._∷_ 119 (List._∷_ 97 (List._∷_ 108 (List._∷_ 100
+      (List._∷_ 95 (List._∷_ 107 (List._∷_ 104 (List._∷_ 97 (List._∷_ 110 (List._∷_ 110 (List._∷_ 97 (List._∷_ 58 (List._∷_ 58 (List._∷_ 73 (List._∷_ 110 (List._∷_ 115 (List._∷_ 101
+      (List._∷_ 114 (List._∷_ 116 (List._∷_ 101 (List._∷_ 100 List.[])))))))))))))))))))))))))) (Syntax.ttcons (Syntax.tcons (Syntax.tyStruct (List._∷_ 103 (List._∷_ 114 (List._∷_
+      101 (List._∷_ 101 (List._∷_ 110 (List._∷_ 119 (List._∷_ 97 (List._∷_ 108 (List._∷_ 100 (List._∷_ 95 (List._∷_ 107 (List._∷_ 104 (List._∷_ 97 (List._∷_ 110 (List._∷_ 110
+      (List._∷_ 97 (List._∷_ 95 (List._∷_ 115 (List._∷_ 116 (List._∷_ 101 (List._∷_ 112 (List._∷_ 115 (List._∷_ 58 (List._∷_ 58 (List._∷_ 83 (List._∷_ 116 (List._∷_ 114 (List._∷_ 101
+      (List._∷_ 97 (List._∷_ 109 List.[])))))))))))))))))))))))))))))) (Syntax.tcons (Syntax.tyStruct (List._∷_ 102 (List._∷_ 114 (List._∷_ 97 (List._∷_ 99 (List._∷_ 116 (List._∷_
+      105 (List._∷_ 111 (List._∷_ 110 (List._∷_ 58 (List._∷_ 58 (List._∷_ 70 (List._∷_ 114 (List._∷_ 97 (List._∷_ 99 (List._∷_ 116 (List._∷_ 105 (List._∷_ 111 (List._∷_ 110
+      List.[])))))))))))))))))) (Syntax.tcons (Syntax.tyInt Syntax.w32) (Syntax.tcons (Syntax.tyInt Syntax.w32) Syntax.tnil))) (Syntax.tcons (Syntax.tyInt Syntax.w32) (Syntax.tcons
+      (Syntax.tyInt Syntax.w32) Syntax.tnil)))) Syntax.tnil) (Syntax.ttcons (Syntax.tcons (Syntax.tyEnum (List._∷_ 114 (List._∷_ 101 (List._∷_ 102 (List._∷_ 117 (List._∷_ 115
+      (List._∷_ 97 (List._∷_ 108 (List._∷_ 58 (List._∷_ 58 (List._∷_ 82 (List._∷_ 101 (List._∷_ 102 (List._∷_ 117 (List._∷_ 115 (List._∷_ 97 (List._∷_ 108 List.[]))))))))))))))))
+      (Syntax.ttcons Syntax.tnil (Syntax.ttcons Syntax.tnil (Syntax.ttcons Syntax.tnil (Syntax.ttcons Syntax.tnil (Syntax.ttcons Syntax.tnil (Syntax.ttcons Syntax.tnil (Syntax.ttcons
+      Syntax.tnil (Syntax.ttcons Syntax.tnil (Syntax.ttcons Syntax.tnil (Syntax.ttcons Syntax.tnil (Syntax.ttcons Syntax.tnil (Syntax.ttcons Syntax.tnil Syntax.ttnil)))))))))))))
+      Syntax.tnil) Syntax.ttnil))),
+) (List._∷_ (1, Rows'.whole (Declared'.row Stream.the-type)) (List._∷_ (
+  2,
+  Mut.mslice Of.R (Syntax.tyRef (Syntax.named 0) Syntax.mut Of.tyBy) 0,
+) (List._∷_ (3, Rows'.sc-here (Row.sInt Syntax.w32)) (List._∷_ (4, Rows'.sc-here (Row.sInt Syntax.w64)) (List._∷_ (5, Rows'.sc-here (Row.sInt Syntax.w64)) (List._∷_ (
+  6,
+  Rows'.any-gone (Syntax.tyArray (Syntax.tyArray (Syntax.tyInt Syntax.w32) 3) 256),
+) (List._∷_ (
+  7,
+  Rows'.any-gone (Syntax.tyArray (Syntax.tyArray (Syntax.tyInt Syntax.w32) 3)
+      4096),
+) (List._∷_ (8, Rows'.any-gone Syntax.tyBool) (List._∷_ (
+  9,
+  Rows'.any-gone (Syntax.tyEnum (List._∷_ 114 (List._∷_ 101 (List._∷_ 102 (List._∷_ 117 (List._∷_ 115
+      (List._∷_ 97 (List._∷_ 108 (List._∷_ 58 (List._∷_ 58 (List._∷_ 82 (List._∷_ 101 (List._∷_ 102 (List._∷_ 117 (List._∷_ 115 (List._∷_ 97 (List._∷_ 108 List.[]))))))))))))))))
+      (Syntax.ttcons Syntax.tnil (Syntax.ttcons Syntax.tnil (Syntax.ttcons Syntax.tnil (Syntax.ttcons Syntax.tnil (Syntax.ttcons Syntax.tnil (Syntax.ttcons Syntax.tnil (Syntax.ttcons
+      Syntax.tnil (Syntax.ttcons Syntax.tnil (Syntax.ttcons Syntax.tnil (Syntax.ttcons Syntax.tnil (Syntax.ttcons Syntax.tnil (Syntax.ttcons Syntax.tnil Syntax.ttnil))))))))))))),
+)
+    (List._∷_ (10, Rows'.any-gone (Syntax.tyArray (Syntax.tyInt Syntax.w32) 3)) (List._∷_ (11, Rows'.any-gone (Syntax.tyRef Syntax.erased Syntax.mut Of.tyBy)) (List._∷_ (
+      12,
+      Rows'.any-gone (Syntax.tyStruct (List._∷_ 38 (List._∷_ 91 (List._∷_ 93 List.[]))) (Syntax.tcons (Syntax.tyRef Syntax.erased Syntax.mut Of.tyBy) (Syntax.tcons (Syntax.tyInt
+          Syntax.w64) Syntax.tnil))),
+    ) (List._∷_ (13, Rows'.any-gone (Syntax.tyRef Syntax.erased Syntax.mut (Syntax.tyArray (Syntax.tyArray (Syntax.tyInt Syntax.w32) 3) 256)))
+    (List._∷_ (
+      14,
+      Rows'.any-gone (Syntax.tyStruct (List._∷_ 38 (List._∷_ 91 (List._∷_ 93 List.[]))) (Syntax.tcons (Syntax.tyRef Syntax.erased Syntax.mut (Syntax.tyArray
+          (Syntax.tyInt Syntax.w32) 3)) (Syntax.tcons (Syntax.tyInt Syntax.w64) Syntax.tnil))),
+    ) (List._∷_ (15, Rows.arrF (Referent.rtF (Referent.fInt Syntax.w32)) 3 0)
+    List.[])))))))))))))))
+
+abbrev pub t31 : List.List Row.Entry
+t31 = List._∷_ (
+  0,
+  Rows'.any-gone (Syntax.tyEnum (List._∷_ 103 (List._∷_ 114 (List._∷_ 101 (List._∷_ 101 (List._∷_ 110 (List._∷_ 119 (List._∷_ 97 (List._∷_ 108 (List._∷_ 100
+      (List._∷_ 95 (List._∷_ 107 (List._∷_ 104 (List._∷_ 97 (List._∷_ 110 (List._∷_ 110 (List._∷_ 97 (List._∷_ 58 (List._∷_ 58 (List._∷_ 73 (List._∷_ 110 (List._∷_ 115 (List._∷_ 101
+      (List._∷_ 114 (List._∷_ 116 (List._∷_ 101 (List._∷_ 100 List.[])))))))))))))))))))))))))) (Syntax.ttcons (Syntax.tcons (Syntax.tyStruct (List._∷_ 103 (List._∷_ 114 (List._∷_
+      101 (List._∷_ 101 (List._∷_ 110 (List._∷_ 119 (List._∷_ 97 (List._∷_ 108 (List._∷_ 100 (List._∷_ 95 (List._∷_ 107 (List._∷_ 104 (List._∷_ 97 (List._∷_ 110 (List._∷_ 110
+      (List._∷_ 97 (List._∷_ 95 (List._∷_ 115 (List._∷_ 116 (List._∷_ 101 (List._∷_ 112 (List._∷_ 115 (List._∷_ 58 (List._∷_ 58 (List._∷_ 83 (List._∷_ 116 (List._∷_ 114 (List._∷_ 101
+      (List._∷_ 97 (List._∷_ 109 List.[])))))))))))))))))))))))))))))) (Syntax.tcons (Syntax.tyStruct (List._∷_ 102 (List._∷_ 114 (List._∷_ 97 (List._∷_ 99 (List._∷_ 116 (List._∷_
+      105 (List._∷_ 111 (List._∷_ 110 (List._∷_ 58 (List._∷_ 58 (List._∷_ 70 (List._∷_ 114 (List._∷_ 97 (List._∷_ 99 (List._∷_ 116 (List._∷_ 105 (List._∷_ 111 (List._∷_ 110
+      List.[])))))))))))))))))) (Syntax.tcons (Syntax.tyInt Syntax.w32) (Syntax.tcons (Syntax.tyInt Syntax.w32) Syntax.tnil))) (Syntax.tcons (Syntax.tyInt Syntax.w32) (Syntax.tcons
+      (Syntax.tyInt Syntax.w32) Syntax.tnil)))) Syntax.tnil) (Syntax.ttcons (Syntax.tcons (Syntax.tyEnum (List._∷_ 114 (List._∷_ 101 (List._∷_ 102 (List._∷_ 117 (List._∷_ 115
+      (List._∷_ 97 (List._∷_ 108 (List._∷_ 58 (List._∷_ 58 (List._∷_ 82 (List._∷_ 101 (List._∷_ 102 (List._∷_ 117 (List._∷_ 115 (List._∷_ 97 (List._∷_ 108 List.[]))))))))))))))))
+      (Syntax.ttcons Syntax.tnil (Syntax.ttcons Syntax.tnil (Syntax.ttcons Syntax.tnil (Syntax.ttcons Syntax.tnil (Syntax.ttcons Syntax.tnil (Syntax.ttcons Syntax.tnil (Syntax.ttcons
+      Syntax.tnil (Syntax.ttcons Syntax.tnil (Syntax.ttcons Syntax.tnil (Syntax.ttcons Syntax.tnil (Syntax.ttcons Syntax.tnil (Syntax.ttcons Syntax.tnil Syntax.ttnil)))))))))))))
+      Syntax.tnil) Syntax.ttnil))),
+) (List._∷_ (1, Rows'.whole (Declared'.row Stream.the-type)) (List._∷_ (
+  2,
+  Mut.mslice Of.R (Syntax.tyRef (Syntax.named 0) Syntax.mut Of.tyBy) 0,
+) (List._∷_ (3, Rows'.sc-here (Row.sInt Syntax.w32)) (List._∷_ (4, Rows'.sc-here (Row.sInt Syntax.w64)) (List._∷_ (5, Rows'.sc-here (Row.sInt Syntax.w64)) (List._∷_ (
+  6,
+  Rows'.any-gone (Syntax.tyArray (Syntax.tyArray (Syntax.tyInt Syntax.w32) 3) 256),
+) (List._∷_ (
+  7,
+  Rows'.whole (Array'.Array (Array'.Array (Referent.rtF (Referent.fInt
+      Syntax.w32)) 3) 4096),
+) (List._∷_ (8, Rows'.any-gone Syntax.tyBool) (List._∷_ (
+  9,
+  Rows'.any-gone (Syntax.tyEnum (List._∷_ 114 (List._∷_ 101 (List._∷_ 102 (List._∷_ 117
+      (List._∷_ 115 (List._∷_ 97 (List._∷_ 108 (List._∷_ 58 (List._∷_ 58 (List._∷_ 82 (List._∷_ 101 (List._∷_ 102 (List._∷_ 117 (List._∷_ 115 (List._∷_ 97 (List._∷_ 108
+      List.[])))))))))))))))) (Syntax.ttcons Syntax.tnil (Syntax.ttcons Syntax.tnil (Syntax.ttcons Syntax.tnil (Syntax.ttcons Syntax.tnil (Syntax.ttcons Syntax.tnil (Syntax.ttcons
+      Syntax.tnil (Syntax.ttcons Syntax.tnil (Syntax.ttcons Syntax.tnil (Syntax.ttcons Syntax.tnil (Syntax.ttcons Syntax.tnil (Syntax.ttcons Syntax.tnil (Syntax.ttcons Syntax.tnil
+      Syntax.ttnil))))))))))))),
+) (List._∷_ (10, Rows'.any-gone (Syntax.tyArray (Syntax.tyInt Syntax.w32) 3)) (List._∷_ (
+  11,
+  Rows'.any-gone (Syntax.tyRef Syntax.erased Syntax.mut
+      Of.tyBy),
+) (List._∷_ (
+  12,
+  Rows'.any-gone (Syntax.tyStruct (List._∷_ 38 (List._∷_ 91 (List._∷_ 93 List.[]))) (Syntax.tcons (Syntax.tyRef Syntax.erased Syntax.mut Of.tyBy)
+      (Syntax.tcons (Syntax.tyInt Syntax.w64) Syntax.tnil))),
+) (List._∷_ (
+  13,
+  Rows'.any-gone (Syntax.tyRef Syntax.erased Syntax.mut (Syntax.tyArray (Syntax.tyArray (Syntax.tyInt
+      Syntax.w32) 3) 256)),
+) (List._∷_ (
+  14,
+  Rows'.any-gone (Syntax.tyStruct (List._∷_ 38 (List._∷_ 91 (List._∷_ 93 List.[]))) (Syntax.tcons (Syntax.tyRef Syntax.erased Syntax.mut
+      (Syntax.tyArray (Syntax.tyInt Syntax.w32) 3)) (Syntax.tcons (Syntax.tyInt Syntax.w64) Syntax.tnil))),
+) (List._∷_ (15, Rows.arrF (Referent.rtF (Referent.fInt Syntax.w32)) 3 0)
+    List.[])))))))))))))))
+
+abbrev pub t32 : List.List Row.Entry
+t32 = List._∷_ (
+  0,
+  Rows'.any-gone (Syntax.tyEnum (List._∷_ 103 (List._∷_ 114 (List._∷_ 101 (List._∷_ 101 (List._∷_ 110 (List._∷_ 119 (List._∷_ 97 (List._∷_ 108 (List._∷_ 100
+      (List._∷_ 95 (List._∷_ 107 (List._∷_ 104 (List._∷_ 97 (List._∷_ 110 (List._∷_ 110 (List._∷_ 97 (List._∷_ 58 (List._∷_ 58 (List._∷_ 73 (List._∷_ 110 (List._∷_ 115 (List._∷_ 101
+      (List._∷_ 114 (List._∷_ 116 (List._∷_ 101 (List._∷_ 100 List.[])))))))))))))))))))))))))) (Syntax.ttcons (Syntax.tcons (Syntax.tyStruct (List._∷_ 103 (List._∷_ 114 (List._∷_
+      101 (List._∷_ 101 (List._∷_ 110 (List._∷_ 119 (List._∷_ 97 (List._∷_ 108 (List._∷_ 100 (List._∷_ 95 (List._∷_ 107 (List._∷_ 104 (List._∷_ 97 (List._∷_ 110 (List._∷_ 110
+      (List._∷_ 97 (List._∷_ 95 (List._∷_ 115 (List._∷_ 116 (List._∷_ 101 (List._∷_ 112 (List._∷_ 115 (List._∷_ 58 (List._∷_ 58 (List._∷_ 83 (List._∷_ 116 (List._∷_ 114 (List._∷_ 101
+      (List._∷_ 97 (List._∷_ 109 List.[])))))))))))))))))))))))))))))) (Syntax.tcons (Syntax.tyStruct (List._∷_ 102 (List._∷_ 114 (List._∷_ 97 (List._∷_ 99 (List._∷_ 116 (List._∷_
+      105 (List._∷_ 111 (List._∷_ 110 (List._∷_ 58 (List._∷_ 58 (List._∷_ 70 (List._∷_ 114 (List._∷_ 97 (List._∷_ 99 (List._∷_ 116 (List._∷_ 105 (List._∷_ 111 (List._∷_ 110
+      List.[])))))))))))))))))) (Syntax.tcons (Syntax.tyInt Syntax.w32) (Syntax.tcons (Syntax.tyInt Syntax.w32) Syntax.tnil))) (Syntax.tcons (Syntax.tyInt Syntax.w32) (Syntax.tcons
+      (Syntax.tyInt Syntax.w32) Syntax.tnil)))) Syntax.tnil) (Syntax.ttcons (Syntax.tcons (Syntax.tyEnum (List._∷_ 114 (List._∷_ 101 (List._∷_ 102 (List._∷_ 117 (List._∷_ 115
+      (List._∷_ 97 (List._∷_ 108 (List._∷_ 58 (List._∷_ 58 (List._∷_ 82 (List._∷_ 101 (List._∷_ 102 (List._∷_ 117 (List._∷_ 115 (List._∷_ 97 (List._∷_ 108 List.[]))))))))))))))))
+      (Syntax.ttcons Syntax.tnil (Syntax.ttcons Syntax.tnil (Syntax.ttcons Syntax.tnil (Syntax.ttcons Syntax.tnil (Syntax.ttcons Syntax.tnil (Syntax.ttcons Syntax.tnil (Syntax.ttcons
+      Syntax.tnil (Syntax.ttcons Syntax.tnil (Syntax.ttcons Syntax.tnil (Syntax.ttcons Syntax.tnil (Syntax.ttcons Syntax.tnil (Syntax.ttcons Syntax.tnil Syntax.ttnil)))))))))))))
+      Syntax.tnil) Syntax.ttnil))),
+) (List._∷_ (1, Rows'.whole (Declared'.row Stream.the-type)) (List._∷_ (
+  2,
+  Mut.mslice Of.R (Syntax.tyRef (Syntax.named 0) Syntax.mut Of.tyBy) 0,
+) (List._∷_ (3, Rows'.sc-here (Row.sInt Syntax.w32)) (List._∷_ (4, Rows'.sc-here (Row.sInt Syntax.w64)) (List._∷_ (5, Rows'.sc-here (Row.sInt Syntax.w64)) (List._∷_ (
+  6,
+  Rows'.any-gone (Syntax.tyArray (Syntax.tyArray (Syntax.tyInt Syntax.w32) 3) 256),
+) (List._∷_ (7, Rows.arrF (Array'.Array (Referent.rtF (Referent.fInt Syntax.w32)) 3) 4096 0)
+    (List._∷_ (8, Rows'.any-gone Syntax.tyBool) (List._∷_ (
+      9,
+      Rows'.any-gone (Syntax.tyEnum (List._∷_ 114 (List._∷_ 101 (List._∷_ 102 (List._∷_ 117 (List._∷_ 115 (List._∷_ 97
+          (List._∷_ 108 (List._∷_ 58 (List._∷_ 58 (List._∷_ 82 (List._∷_ 101 (List._∷_ 102 (List._∷_ 117 (List._∷_ 115 (List._∷_ 97 (List._∷_ 108 List.[])))))))))))))))) (Syntax.ttcons
+          Syntax.tnil (Syntax.ttcons Syntax.tnil (Syntax.ttcons Syntax.tnil (Syntax.ttcons Syntax.tnil (Syntax.ttcons Syntax.tnil (Syntax.ttcons Syntax.tnil (Syntax.ttcons Syntax.tnil
+          (Syntax.ttcons Syntax.tnil (Syntax.ttcons Syntax.tnil (Syntax.ttcons Syntax.tnil (Syntax.ttcons Syntax.tnil (Syntax.ttcons Syntax.tnil Syntax.ttnil))))))))))))),
+    ) (List._∷_
+    (10, Rows'.any-gone (Syntax.tyArray (Syntax.tyInt Syntax.w32) 3)) (List._∷_ (11, Rows'.any-gone (Syntax.tyRef Syntax.erased Syntax.mut Of.tyBy)) (List._∷_ (
+      12,
+      Rows'.any-gone (Syntax.tyStruct (List._∷_ 38 (List._∷_ 91 (List._∷_ 93 List.[]))) (Syntax.tcons (Syntax.tyRef Syntax.erased Syntax.mut Of.tyBy) (Syntax.tcons (Syntax.tyInt
+          Syntax.w64) Syntax.tnil))),
+    ) (List._∷_ (13, Rows'.any-gone (Syntax.tyRef Syntax.erased Syntax.mut (Syntax.tyArray (Syntax.tyArray (Syntax.tyInt Syntax.w32) 3) 256)))
+    (List._∷_ (
+      14,
+      Rows'.any-gone (Syntax.tyStruct (List._∷_ 38 (List._∷_ 91 (List._∷_ 93 List.[]))) (Syntax.tcons (Syntax.tyRef Syntax.erased Syntax.mut (Syntax.tyArray
+          (Syntax.tyInt Syntax.w32) 3)) (Syntax.tcons (Syntax.tyInt Syntax.w64) Syntax.tnil))),
+    ) (List._∷_ (15, Rows.arrF (Referent.rtF (Referent.fInt Syntax.w32)) 3 0)
+    List.[])))))))))))))))
+
+abbrev pub t33 : List.List Row.Entry
+t33 = List._∷_ (
+  0,
+  Rows'.any-gone (Syntax.tyEnum (List._∷_ 103 (List._∷_ 114 (List._∷_ 101 (List._∷_ 101 (List._∷_ 110 (List._∷_ 119 (List._∷_ 97 (List._∷_ 108 (List._∷_ 100
+      (List._∷_ 95 (List._∷_ 107 (List._∷_ 104 (List._∷_ 97 (List._∷_ 110 (List._∷_ 110 (List._∷_ 97 (List._∷_ 58 (List._∷_ 58 (List._∷_ 73 (List._∷_ 110 (List._∷_ 115 (List._∷_ 101
+      (List._∷_ 114 (List._∷_ 116 (List._∷_ 101 (List._∷_ 100 List.[])))))))))))))))))))))))))) (Syntax.ttcons (Syntax.tcons (Syntax.tyStruct (List._∷_ 103 (List._∷_ 114 (List._∷_
+      101 (List._∷_ 101 (List._∷_ 110 (List._∷_ 119 (List._∷_ 97 (List._∷_ 108 (List._∷_ 100 (List._∷_ 95 (List._∷_ 107 (List._∷_ 104 (List._∷_ 97 (List._∷_ 110 (List._∷_ 110
+      (List._∷_ 97 (List._∷_ 95 (List._∷_ 115 (List._∷_ 116 (List._∷_ 101 (List._∷_ 112 (List._∷_ 115 (List._∷_ 58 (List._∷_ 58 (List._∷_ 83 (List._∷_ 116 (List._∷_ 114 (List._∷_ 101
+      (List._∷_ 97 (List._∷_ 109 List.[])))))))))))))))))))))))))))))) (Syntax.tcons (Syntax.tyStruct (List._∷_ 102 (List._∷_ 114 (List._∷_ 97 (List._∷_ 99 (List._∷_ 116 (List._∷_
+      105 (List._∷_ 111 (List._∷_ 110 (List._∷_ 58 (List._∷_ 58 (List._∷_ 70 (List._∷_ 114 (List._∷_ 97 (List._∷_ 99 (List._∷_ 116 (List._∷_ 105 (List._∷_ 111 (List._∷_ 110
+      List.[])))))))))))))))))) (Syntax.tcons (Syntax.tyInt Syntax.w32) (Syntax.tcons (Syntax.tyInt Syntax.w32) Syntax.tnil))) (Syntax.tcons (Syntax.tyInt Syntax.w32) (Syntax.tcons
+      (Syntax.tyInt Syntax.w32) Syntax.tnil)))) Syntax.tnil) (Syntax.ttcons (Syntax.tcons (Syntax.tyEnum (List._∷_ 114 (List._∷_ 101 (List._∷_ 102 (List._∷_ 117 (List._∷_ 115
+      (List._∷_ 97 (List._∷_ 108 (List._∷_ 58 (List._∷_ 58 (List._∷_ 82 (List._∷_ 101 (List._∷_ 102 (List._∷_ 117 (List._∷_ 115 (List._∷_ 97 (List._∷_ 108 List.[]))))))))))))))))
+      (Syntax.ttcons Syntax.tnil (Syntax.ttcons Syntax.tnil (Syntax.ttcons Syntax.tnil (Syntax.ttcons Syntax.tnil (Syntax.ttcons Syntax.tnil (Syntax.ttcons Syntax.tnil (Syntax.ttcons
+      Syntax.tnil (Syntax.ttcons Syntax.tnil (Syntax.ttcons Syntax.tnil (Syntax.ttcons Syntax.tnil (Syntax.ttcons Syntax.tnil (Syntax.ttcons Syntax.tnil Syntax.ttnil)))))))))))))
+      Syntax.tnil) Syntax.ttnil))),
+) (List._∷_ (1, Rows'.whole (Declared'.row Stream.the-type)) (List._∷_ (
+  2,
+  Mut.mslice Of.R (Syntax.tyRef (Syntax.named 0) Syntax.mut Of.tyBy) 0,
+) (List._∷_ (3, Rows'.sc-here (Row.sInt Syntax.w32)) (List._∷_ (4, Rows'.sc-here (Row.sInt Syntax.w64)) (List._∷_ (5, Rows'.sc-here (Row.sInt Syntax.w64)) (List._∷_ (
+  6,
+  Rows'.any-gone (Syntax.tyArray (Syntax.tyArray (Syntax.tyInt Syntax.w32) 3) 256),
+) (List._∷_ (7, Rows.arrF (Array'.Array (Referent.rtF (Referent.fInt Syntax.w32)) 3) 4096 0)
+    (List._∷_ (8, Rows'.any-gone Syntax.tyBool) (List._∷_ (
       9,
       Rows'.any-gone (Syntax.tyEnum (List._∷_ 114 (List._∷_ 101 (List._∷_ 102 (List._∷_ 117 (List._∷_ 115 (List._∷_ 97
           (List._∷_ 108 (List._∷_ 58 (List._∷_ 58 (List._∷_ 82 (List._∷_ 101 (List._∷_ 102 (List._∷_ 117 (List._∷_ 115 (List._∷_ 97 (List._∷_ 108 List.[])))))))))))))))) (Syntax.ttcons
@@ -1551,360 +1900,6 @@ t25 = List._∷_ (0, Rows'.whole (Declared.row Inserted.the-type)) (List._∷_ (
     ) (List._∷_ (15, Rows'.any-gone (Syntax.tyArray (Syntax.tyInt Syntax.w32) 3))
     List.[])))))))))))))))
 
-abbrev pub t26 : List.List Row.Entry
-t26 = List._∷_ (0, Rows'.whole (Declared.row Inserted.the-type)) (List._∷_ (
-  1,
-  Rows'.any-gone (Syntax.tyStruct (List._∷_ 103 (List._∷_ 114 (List._∷_ 101 (List._∷_ 101 (List._∷_
-      110 (List._∷_ 119 (List._∷_ 97 (List._∷_ 108 (List._∷_ 100 (List._∷_ 95 (List._∷_ 107 (List._∷_ 104 (List._∷_ 97 (List._∷_ 110 (List._∷_ 110 (List._∷_ 97 (List._∷_ 58 (List._∷_
-      58 (List._∷_ 83 (List._∷_ 116 (List._∷_ 114 (List._∷_ 101 (List._∷_ 97 (List._∷_ 109 List.[])))))))))))))))))))))))) (Syntax.tcons (Syntax.tyStruct (List._∷_ 102 (List._∷_ 114
-      (List._∷_ 97 (List._∷_ 99 (List._∷_ 116 (List._∷_ 105 (List._∷_ 111 (List._∷_ 110 (List._∷_ 58 (List._∷_ 58 (List._∷_ 70 (List._∷_ 114 (List._∷_ 97 (List._∷_ 99 (List._∷_ 116
-      (List._∷_ 105 (List._∷_ 111 (List._∷_ 110 List.[])))))))))))))))))) (Syntax.tcons (Syntax.tyInt Syntax.w32) (Syntax.tcons (Syntax.tyInt Syntax.w32) Syntax.tnil))) (Syntax.tcons
-      (Syntax.tyInt Syntax.w32) (Syntax.tcons (Syntax.tyInt Syntax.w32) Syntax.tnil)))),
-) (List._∷_ (2, Mut.mslice Of.R (Syntax.tyRef (Syntax.named 0) Syntax.mut Of.tyBy) 0)
-    (List._∷_ (3, Rows'.sc-here (Row.sInt Syntax.w32)) (List._∷_ (4, Rows'.sc-here (Row.sInt Syntax.w64)) (List._∷_ (5, Rows'.sc-here (Row.sInt Syntax.w64)) (List._∷_ (
-      6,
-      Rows'.any-gone (Syntax.tyArray (Syntax.tyArray (Syntax.tyInt Syntax.w32) 3) 256),
-    ) (List._∷_ (
-      7,
-      Rows'.any-gone (Syntax.tyArray (Syntax.tyArray (Syntax.tyInt Syntax.w32) 3)
-          4096),
-    ) (List._∷_ (8, Rows'.any-gone Syntax.tyBool) (List._∷_ (
-      9,
-      Rows'.any-gone (Syntax.tyEnum (List._∷_ 114 (List._∷_ 101 (List._∷_ 102 (List._∷_ 117 (List._∷_ 115
-          (List._∷_ 97 (List._∷_ 108 (List._∷_ 58 (List._∷_ 58 (List._∷_ 82 (List._∷_ 101 (List._∷_ 102 (List._∷_ 117 (List._∷_ 115 (List._∷_ 97 (List._∷_ 108 List.[]))))))))))))))))
-          (Syntax.ttcons Syntax.tnil (Syntax.ttcons Syntax.tnil (Syntax.ttcons Syntax.tnil (Syntax.ttcons Syntax.tnil (Syntax.ttcons Syntax.tnil (Syntax.ttcons Syntax.tnil (Syntax.ttcons
-          Syntax.tnil (Syntax.ttcons Syntax.tnil (Syntax.ttcons Syntax.tnil (Syntax.ttcons Syntax.tnil (Syntax.ttcons Syntax.tnil (Syntax.ttcons Syntax.tnil Syntax.ttnil))))))))))))),
-    )
-    (List._∷_ (10, Rows'.any-gone (Syntax.tyArray (Syntax.tyInt Syntax.w32) 3)) (List._∷_ (11, Rows'.any-gone (Syntax.tyRef Syntax.erased Syntax.mut Of.tyBy)) (List._∷_ (
-      12,
-      Rows'.any-gone (Syntax.tyStruct (List._∷_ 38 (List._∷_ 91 (List._∷_ 93 List.[]))) (Syntax.tcons (Syntax.tyRef Syntax.erased Syntax.mut Of.tyBy) (Syntax.tcons (Syntax.tyInt
-          Syntax.w64) Syntax.tnil))),
-    ) (List._∷_ (13, Rows'.any-gone (Syntax.tyRef Syntax.erased Syntax.mut (Syntax.tyArray (Syntax.tyArray (Syntax.tyInt Syntax.w32) 3) 256)))
-    (List._∷_ (
-      14,
-      Rows'.any-gone (Syntax.tyStruct (List._∷_ 38 (List._∷_ 91 (List._∷_ 93 List.[]))) (Syntax.tcons (Syntax.tyRef Syntax.erased Syntax.mut (Syntax.tyArray
-          (Syntax.tyInt Syntax.w32) 3)) (Syntax.tcons (Syntax.tyInt Syntax.w64) Syntax.tnil))),
-    ) (List._∷_ (15, Rows'.any-gone (Syntax.tyArray (Syntax.tyInt Syntax.w32) 3))
-    List.[])))))))))))))))
-
-abbrev pub t27 : List.List Row.Entry
-t27 = List._∷_ (0, Rows'.whole (Declared.row Inserted.the-type)) (List._∷_ (
-  1,
-  Rows'.any-gone (Syntax.tyStruct (List._∷_ 103 (List._∷_ 114 (List._∷_ 101 (List._∷_ 101 (List._∷_
-      110 (List._∷_ 119 (List._∷_ 97 (List._∷_ 108 (List._∷_ 100 (List._∷_ 95 (List._∷_ 107 (List._∷_ 104 (List._∷_ 97 (List._∷_ 110 (List._∷_ 110 (List._∷_ 97 (List._∷_ 58 (List._∷_
-      58 (List._∷_ 83 (List._∷_ 116 (List._∷_ 114 (List._∷_ 101 (List._∷_ 97 (List._∷_ 109 List.[])))))))))))))))))))))))) (Syntax.tcons (Syntax.tyStruct (List._∷_ 102 (List._∷_ 114
-      (List._∷_ 97 (List._∷_ 99 (List._∷_ 116 (List._∷_ 105 (List._∷_ 111 (List._∷_ 110 (List._∷_ 58 (List._∷_ 58 (List._∷_ 70 (List._∷_ 114 (List._∷_ 97 (List._∷_ 99 (List._∷_ 116
-      (List._∷_ 105 (List._∷_ 111 (List._∷_ 110 List.[])))))))))))))))))) (Syntax.tcons (Syntax.tyInt Syntax.w32) (Syntax.tcons (Syntax.tyInt Syntax.w32) Syntax.tnil))) (Syntax.tcons
-      (Syntax.tyInt Syntax.w32) (Syntax.tcons (Syntax.tyInt Syntax.w32) Syntax.tnil)))),
-) (List._∷_ (2, Mut.mslice Of.R (Syntax.tyRef (Syntax.named 0) Syntax.mut Of.tyBy) 0)
-    (List._∷_ (3, Rows'.any-gone (Syntax.tyInt Syntax.w32)) (List._∷_ (4, Rows'.sc-here (Row.sInt Syntax.w64)) (List._∷_ (5, Rows'.sc-here (Row.sInt Syntax.w64)) (List._∷_ (
-      6,
-      Rows'.any-gone (Syntax.tyArray (Syntax.tyArray (Syntax.tyInt Syntax.w32) 3) 256),
-    ) (List._∷_ (
-      7,
-      Rows'.any-gone (Syntax.tyArray (Syntax.tyArray (Syntax.tyInt Syntax.w32) 3)
-          4096),
-    ) (List._∷_ (8, Rows'.any-gone Syntax.tyBool) (List._∷_ (
-      9,
-      Rows'.any-gone (Syntax.tyEnum (List._∷_ 114 (List._∷_ 101 (List._∷_ 102 (List._∷_ 117 (List._∷_ 115
-          (List._∷_ 97 (List._∷_ 108 (List._∷_ 58 (List._∷_ 58 (List._∷_ 82 (List._∷_ 101 (List._∷_ 102 (List._∷_ 117 (List._∷_ 115 (List._∷_ 97 (List._∷_ 108 List.[]))))))))))))))))
-          (Syntax.ttcons Syntax.tnil (Syntax.ttcons Syntax.tnil (Syntax.ttcons Syntax.tnil (Syntax.ttcons Syntax.tnil (Syntax.ttcons Syntax.tnil (Syntax.ttcons Syntax.tnil (Syntax.ttcons
-          Syntax.tnil (Syntax.ttcons Syntax.tnil (Syntax.ttcons Syntax.tnil (Syntax.ttcons Syntax.tnil (Syntax.ttcons Syntax.tnil (Syntax.ttcons Syntax.tnil Syntax.ttnil))))))))))))),
-    )
-    (List._∷_ (10, Rows'.any-gone (Syntax.tyArray (Syntax.tyInt Syntax.w32) 3)) (List._∷_ (11, Rows'.any-gone (Syntax.tyRef Syntax.erased Syntax.mut Of.tyBy)) (List._∷_ (
-      12,
-      Rows'.any-gone (Syntax.tyStruct (List._∷_ 38 (List._∷_ 91 (List._∷_ 93 List.[]))) (Syntax.tcons (Syntax.tyRef Syntax.erased Syntax.mut Of.tyBy) (Syntax.tcons (Syntax.tyInt
-          Syntax.w64) Syntax.tnil))),
-    ) (List._∷_ (13, Rows'.any-gone (Syntax.tyRef Syntax.erased Syntax.mut (Syntax.tyArray (Syntax.tyArray (Syntax.tyInt Syntax.w32) 3) 256)))
-    (List._∷_ (
-      14,
-      Rows'.any-gone (Syntax.tyStruct (List._∷_ 38 (List._∷_ 91 (List._∷_ 93 List.[]))) (Syntax.tcons (Syntax.tyRef Syntax.erased Syntax.mut (Syntax.tyArray
-          (Syntax.tyInt Syntax.w32) 3)) (Syntax.tcons (Syntax.tyInt Syntax.w64) Syntax.tnil))),
-    ) (List._∷_ (15, Rows'.any-gone (Syntax.tyArray (Syntax.tyInt Syntax.w32) 3))
-    List.[])))))))))))))))
-
-abbrev pub t28 : List.List Row.Entry
-t28 = List._∷_ (0, Rows'.whole (Declared.row Inserted.the-type)) (List._∷_ (
-  1,
-  Rows'.any-gone (Syntax.tyStruct (List._∷_ 103 (List._∷_ 114 (List._∷_ 101 (List._∷_ 101 (List._∷_
-      110 (List._∷_ 119 (List._∷_ 97 (List._∷_ 108 (List._∷_ 100 (List._∷_ 95 (List._∷_ 107 (List._∷_ 104 (List._∷_ 97 (List._∷_ 110 (List._∷_ 110 (List._∷_ 97 (List._∷_ 58 (List._∷_
-      58 (List._∷_ 83 (List._∷_ 116 (List._∷_ 114 (List._∷_ 101 (List._∷_ 97 (List._∷_ 109 List.[])))))))))))))))))))))))) (Syntax.tcons (Syntax.tyStruct (List._∷_ 102 (List._∷_ 114
-      (List._∷_ 97 (List._∷_ 99 (List._∷_ 116 (List._∷_ 105 (List._∷_ 111 (List._∷_ 110 (List._∷_ 58 (List._∷_ 58 (List._∷_ 70 (List._∷_ 114 (List._∷_ 97 (List._∷_ 99 (List._∷_ 116
-      (List._∷_ 105 (List._∷_ 111 (List._∷_ 110 List.[])))))))))))))))))) (Syntax.tcons (Syntax.tyInt Syntax.w32) (Syntax.tcons (Syntax.tyInt Syntax.w32) Syntax.tnil))) (Syntax.tcons
-      (Syntax.tyInt Syntax.w32) (Syntax.tcons (Syntax.tyInt Syntax.w32) Syntax.tnil)))),
-) (List._∷_ (2, Mut.mslice Of.R (Syntax.tyRef (Syntax.named 0) Syntax.mut Of.tyBy) 0)
-    (List._∷_ (3, Rows'.any-gone (Syntax.tyInt Syntax.w32)) (List._∷_ (4, Rows'.any-gone (Syntax.tyInt Syntax.w64)) (List._∷_ (5, Rows'.sc-here (Row.sInt Syntax.w64)) (List._∷_
-    (6, Rows'.any-gone (Syntax.tyArray (Syntax.tyArray (Syntax.tyInt Syntax.w32) 3) 256)) (List._∷_ (
-      7,
-      Rows'.any-gone (Syntax.tyArray (Syntax.tyArray (Syntax.tyInt Syntax.w32)
-          3) 4096),
-    ) (List._∷_ (8, Rows'.any-gone Syntax.tyBool) (List._∷_ (
-      9,
-      Rows'.any-gone (Syntax.tyEnum (List._∷_ 114 (List._∷_ 101 (List._∷_ 102 (List._∷_ 117 (List._∷_ 115
-          (List._∷_ 97 (List._∷_ 108 (List._∷_ 58 (List._∷_ 58 (List._∷_ 82 (List._∷_ 101 (List._∷_ 102 (List._∷_ 117 (List._∷_ 115 (List._∷_ 97 (List._∷_ 108 List.[]))))))))))))))))
-          (Syntax.ttcons Syntax.tnil (Syntax.ttcons Syntax.tnil (Syntax.ttcons Syntax.tnil (Syntax.ttcons Syntax.tnil (Syntax.ttcons Syntax.tnil (Syntax.ttcons Syntax.tnil (Syntax.ttcons
-          Syntax.tnil (Syntax.ttcons Syntax.tnil (Syntax.ttcons Syntax.tnil (Syntax.ttcons Syntax.tnil (Syntax.ttcons Syntax.tnil (Syntax.ttcons Syntax.tnil Syntax.ttnil))))))))))))),
-    )
-    (List._∷_ (10, Rows'.any-gone (Syntax.tyArray (Syntax.tyInt Syntax.w32) 3)) (List._∷_ (11, Rows'.any-gone (Syntax.tyRef Syntax.erased Syntax.mut Of.tyBy)) (List._∷_ (
-      12,
-      Rows'.any-gone (Syntax.tyStruct (List._∷_ 38 (List._∷_ 91 (List._∷_ 93 List.[]))) (Syntax.tcons (Syntax.tyRef Syntax.erased Syntax.mut Of.tyBy) (Syntax.tcons (Syntax.tyInt
-          Syntax.w64) Syntax.tnil))),
-    ) (List._∷_ (13, Rows'.any-gone (Syntax.tyRef Syntax.erased Syntax.mut (Syntax.tyArray (Syntax.tyArray (Syntax.tyInt Syntax.w32) 3) 256)))
-    (List._∷_ (
-      14,
-      Rows'.any-gone (Syntax.tyStruct (List._∷_ 38 (List._∷_ 91 (List._∷_ 93 List.[]))) (Syntax.tcons (Syntax.tyRef Syntax.erased Syntax.mut (Syntax.tyArray
-          (Syntax.tyInt Syntax.w32) 3)) (Syntax.tcons (Syntax.tyInt Syntax.w64) Syntax.tnil))),
-    ) (List._∷_ (15, Rows'.any-gone (Syntax.tyArray (Syntax.tyInt Syntax.w32) 3))
-    List.[])))))))))))))))
-
-abbrev pub t29 : List.List Row.Entry
-t29 = List._∷_ (
-  0,
-  Rows'.any-gone (Syntax.tyEnum (List._∷_ 103 (List._∷_ 114 (List._∷_ 101 (List._∷_ 101 (List._∷_ 110 (List._∷_ 119 (List._∷_ 97 (List._∷_ 108 (List._∷_ 100
-      (List._∷_ 95 (List._∷_ 107 (List._∷_ 104 (List._∷_ 97 (List._∷_ 110 (List._∷_ 110 (List._∷_ 97 (List._∷_ 58 (List._∷_ 58 (List._∷_ 73 (List._∷_ 110 (List._∷_ 115 (List._∷_ 101
-      (List._∷_ 114 (List._∷_ 116 (List._∷_ 101 (List._∷_ 100 List.[])))))))))))))))))))))))))) (Syntax.ttcons (Syntax.tcons (Syntax.tyStruct (List._∷_ 103 (List._∷_ 114 (List._∷_
-      101 (List._∷_ 101 (List._∷_ 110 (List._∷_ 119 (List._∷_ 97 (List._∷_ 108 (List._∷_ 100 (List._∷_ 95 (List._∷_ 107 (List._∷_ 104 (List._∷_ 97 (List._∷_ 110 (List._∷_ 110
-      (List._∷_ 97 (List._∷_ 58 (List._∷_ 58 (List._∷_ 83 (List._∷_ 116 (List._∷_ 114 (List._∷_ 101 (List._∷_ 97 (List._∷_ 109 List.[])))))))))))))))))))))))) (Syntax.tcons
-      (Syntax.tyStruct (List._∷_ 102 (List._∷_ 114 (List._∷_ 97 (List._∷_ 99 (List._∷_ 116 (List._∷_ 105 (List._∷_ 111 (List._∷_ 110 (List._∷_ 58 (List._∷_ 58 (List._∷_ 70 (List._∷_
-      114 (List._∷_ 97 (List._∷_ 99 (List._∷_ 116 (List._∷_ 105 (List._∷_ 111 (List._∷_ 110 List.[])))))))))))))))))) (Syntax.tcons (Syntax.tyInt Syntax.w32) (Syntax.tcons
-      (Syntax.tyInt Syntax.w32) Syntax.tnil))) (Syntax.tcons (Syntax.tyInt Syntax.w32) (Syntax.tcons (Syntax.tyInt Syntax.w32) Syntax.tnil)))) Syntax.tnil) (Syntax.ttcons
-      (Syntax.tcons (Syntax.tyEnum (List._∷_ 114 (List._∷_ 101 (List._∷_ 102 (List._∷_ 117 (List._∷_ 115 (List._∷_ 97 (List._∷_ 108 (List._∷_ 58 (List._∷_ 58 (List._∷_ 82 (List._∷_
-      101 (List._∷_ 102 (List._∷_ 117 (List._∷_ 115 (List._∷_ 97 (List._∷_ 108 List.[])))))))))))))))) (Syntax.ttcons Syntax.tnil (Syntax.ttcons Syntax.tnil (Syntax.ttcons
-      Syntax.tnil (Syntax.ttcons Syntax.tnil (Syntax.ttcons Syntax.tnil (Syntax.ttcons Syntax.tnil (Syntax.ttcons Syntax.tnil (Syntax.ttcons Syntax.tnil (Syntax.ttcons Syntax.tnil
-      (Syntax.ttcons Syntax.tnil (Syntax.ttcons Syntax.tnil (Syntax.ttcons Syntax.tnil Syntax.ttnil))))))))))))) Syntax.tnil) Syntax.ttnil))),
-) (List._∷_ (
-  1,
-  Rows'.whole
-      (Declared'.row Stream.the-type),
-) (List._∷_ (2, Mut.mslice Of.R (Syntax.tyRef (Syntax.named 0) Syntax.mut Of.tyBy) 0) (List._∷_ (3, Rows'.sc-here (Row.sInt Syntax.w32))
-    (List._∷_ (4, Rows'.sc-here (Row.sInt Syntax.w64)) (List._∷_ (5, Rows'.sc-here (Row.sInt Syntax.w64)) (List._∷_ (
-      6,
-      Rows'.any-gone (Syntax.tyArray (Syntax.tyArray
-          (Syntax.tyInt Syntax.w32) 3) 256),
-    ) (List._∷_ (7, Rows'.any-gone (Syntax.tyArray (Syntax.tyArray (Syntax.tyInt Syntax.w32) 3) 4096)) (List._∷_ (
-      8,
-      Rows'.any-gone
-          Syntax.tyBool,
-    ) (List._∷_ (
-      9,
-      Rows'.any-gone (Syntax.tyEnum (List._∷_ 114 (List._∷_ 101 (List._∷_ 102 (List._∷_ 117 (List._∷_ 115 (List._∷_ 97 (List._∷_ 108 (List._∷_ 58
-          (List._∷_ 58 (List._∷_ 82 (List._∷_ 101 (List._∷_ 102 (List._∷_ 117 (List._∷_ 115 (List._∷_ 97 (List._∷_ 108 List.[])))))))))))))))) (Syntax.ttcons Syntax.tnil (Syntax.ttcons
-          Syntax.tnil (Syntax.ttcons Syntax.tnil (Syntax.ttcons Syntax.tnil (Syntax.ttcons Syntax.tnil (Syntax.ttcons Syntax.tnil (Syntax.ttcons Syntax.tnil (Syntax.ttcons Syntax.tnil
-          (Syntax.ttcons Syntax.tnil (Syntax.ttcons Syntax.tnil (Syntax.ttcons Syntax.tnil (Syntax.ttcons Syntax.tnil Syntax.ttnil))))))))))))),
-    ) (List._∷_ (
-      10,
-      Rows'.any-gone
-          (Syntax.tyArray (Syntax.tyInt Syntax.w32) 3),
-    ) (List._∷_ (11, Rows'.any-gone (Syntax.tyRef Syntax.erased Syntax.mut Of.tyBy)) (List._∷_ (
-      12,
-      Rows'.any-gone (Syntax.tyStruct
-          (List._∷_ 38 (List._∷_ 91 (List._∷_ 93 List.[]))) (Syntax.tcons (Syntax.tyRef Syntax.erased Syntax.mut Of.tyBy) (Syntax.tcons (Syntax.tyInt Syntax.w64) Syntax.tnil))),
-    )
-    (List._∷_ (13, Rows'.any-gone (Syntax.tyRef Syntax.erased Syntax.mut (Syntax.tyArray (Syntax.tyArray (Syntax.tyInt Syntax.w32) 3) 256))) (List._∷_ (
-      14,
-      Rows'.any-gone
-          (Syntax.tyStruct (List._∷_ 38 (List._∷_ 91 (List._∷_ 93 List.[]))) (Syntax.tcons (Syntax.tyRef Syntax.erased Syntax.mut (Syntax.tyArray (Syntax.tyInt Syntax.w32) 3))
-          (Syntax.tcons (Syntax.tyInt Syntax.w64) Syntax.tnil))),
-    ) (List._∷_ (15, Rows'.whole (Array'.Array (Referent.rtF (Referent.fInt Syntax.w32)) 3)) List.[])))))))))))))))
-
-abbrev pub t30 : List.List Row.Entry
-t30 = List._∷_ (
-  0,
-  Rows'.any-gone (Syntax.tyEnum (List._∷_ 103 (List._∷_ 114 (List._∷_ 101 (List._∷_ 101 (List._∷_ 110 (List._∷_ 119 (List._∷_ 97 (List._∷_ 108 (List._∷_ 100
-      (List._∷_ 95 (List._∷_ 107 (List._∷_ 104 (List._∷_ 97 (List._∷_ 110 (List._∷_ 110 (List._∷_ 97 (List._∷_ 58 (List._∷_ 58 (List._∷_ 73 (List._∷_ 110 (List._∷_ 115 (List._∷_ 101
-      (List._∷_ 114 (List._∷_ 116 (List._∷_ 101 (List._∷_ 100 List.[])))))))))))))))))))))))))) (Syntax.ttcons (Syntax.tcons (Syntax.tyStruct (List._∷_ 103 (List._∷_ 114 (List._∷_
-      101 (List._∷_ 101 (List._∷_ 110 (List._∷_ 119 (List._∷_ 97 (List._∷_ 108 (List._∷_ 100 (List._∷_ 95 (List._∷_ 107 (List._∷_ 104 (List._∷_ 97 (List._∷_ 110 (List._∷_ 110
-      (List._∷_ 97 (List._∷_ 58 (List._∷_ 58 (List._∷_ 83 (List._∷_ 116 (List._∷_ 114 (List._∷_ 101 (List._∷_ 97 (List._∷_ 109 List.[])))))))))))))))))))))))) (Syntax.tcons
-      (Syntax.tyStruct (List._∷_ 102 (List._∷_ 114 (List._∷_ 97 (List._∷_ 99 (List._∷_ 116 (List._∷_ 105 (List._∷_ 111 (List._∷_ 110 (List._∷_ 58 (List._∷_ 58 (List._∷_ 70 (List._∷_
-      114 (List._∷_ 97 (List._∷_ 99 (List._∷_ 116 (List._∷_ 105 (List._∷_ 111 (List._∷_ 110 List.[])))))))))))))))))) (Syntax.tcons (Syntax.tyInt Syntax.w32) (Syntax.tcons
-      (Syntax.tyInt Syntax.w32) Syntax.tnil))) (Syntax.tcons (Syntax.tyInt Syntax.w32) (Syntax.tcons (Syntax.tyInt Syntax.w32) Syntax.tnil)))) Syntax.tnil) (Syntax.ttcons
-      (Syntax.tcons (Syntax.tyEnum (List._∷_ 114 (List._∷_ 101 (List._∷_ 102 (List._∷_ 117 (List._∷_ 115 (List._∷_ 97 (List._∷_ 108 (List._∷_ 58 (List._∷_ 58 (List._∷_ 82 (List._∷_
-      101 (List._∷_ 102 (List._∷_ 117 (List._∷_ 115 (List._∷_ 97 (List._∷_ 108 List.[])))))))))))))))) (Syntax.ttcons Syntax.tnil (Syntax.ttcons Syntax.tnil (Syntax.ttcons
-      Syntax.tnil (Syntax.ttcons Syntax.tnil (Syntax.ttcons Syntax.tnil (Syntax.ttcons Syntax.tnil (Syntax.ttcons Syntax.tnil (Syntax.ttcons Syntax.tnil (Syntax.ttcons Syntax.tnil
-      (Syntax.ttcons Syntax.tnil (Syntax.ttcons Syntax.tnil (Syntax.ttcons Syntax.tnil Syntax.ttnil))))))))))))) Syntax.tnil) Syntax.ttnil))),
-) (List._∷_ (
-  1,
-  Rows'.whole
-      (Declared'.row Stream.the-type),
-) (List._∷_ (2, Mut.mslice Of.R (Syntax.tyRef (Syntax.named 0) Syntax.mut Of.tyBy) 0) (List._∷_ (3, Rows'.sc-here (Row.sInt Syntax.w32))
-    (List._∷_ (4, Rows'.sc-here (Row.sInt Syntax.w64)) (List._∷_ (5, Rows'.sc-here (Row.sInt Syntax.w64)) (List._∷_ (
-      6,
-      Rows'.any-gone (Syntax.tyArray (Syntax.tyArray
-          (Syntax.tyInt Syntax.w32) 3) 256),
-    ) (List._∷_ (7, Rows'.any-gone (Syntax.tyArray (Syntax.tyArray (Syntax.tyInt Syntax.w32) 3) 4096)) (List._∷_ (
-      8,
-      Rows'.any-gone
-          Syntax.tyBool,
-    ) (List._∷_ (
-      9,
-      Rows'.any-gone (Syntax.tyEnum (List._∷_ 114 (List._∷_ 101 (List._∷_ 102 (List._∷_ 117 (List._∷_ 115 (List._∷_ 97 (List._∷_ 108 (List._∷_ 58
-          (List._∷_ 58 (List._∷_ 82 (List._∷_ 101 (List._∷_ 102 (List._∷_ 117 (List._∷_ 115 (List._∷_ 97 (List._∷_ 108 List.[])))))))))))))))) (Syntax.ttcons Syntax.tnil (Syntax.ttcons
-          Syntax.tnil (Syntax.ttcons Syntax.tnil (Syntax.ttcons Syntax.tnil (Syntax.ttcons Syntax.tnil (Syntax.ttcons Syntax.tnil (Syntax.ttcons Syntax.tnil (Syntax.ttcons Syntax.tnil
-          (Syntax.ttcons Syntax.tnil (Syntax.ttcons Syntax.tnil (Syntax.ttcons Syntax.tnil (Syntax.ttcons Syntax.tnil Syntax.ttnil))))))))))))),
-    ) (List._∷_ (
-      10,
-      Rows'.any-gone
-          (Syntax.tyArray (Syntax.tyInt Syntax.w32) 3),
-    ) (List._∷_ (11, Rows'.any-gone (Syntax.tyRef Syntax.erased Syntax.mut Of.tyBy)) (List._∷_ (
-      12,
-      Rows'.any-gone (Syntax.tyStruct
-          (List._∷_ 38 (List._∷_ 91 (List._∷_ 93 List.[]))) (Syntax.tcons (Syntax.tyRef Syntax.erased Syntax.mut Of.tyBy) (Syntax.tcons (Syntax.tyInt Syntax.w64) Syntax.tnil))),
-    )
-    (List._∷_ (13, Rows'.any-gone (Syntax.tyRef Syntax.erased Syntax.mut (Syntax.tyArray (Syntax.tyArray (Syntax.tyInt Syntax.w32) 3) 256))) (List._∷_ (
-      14,
-      Rows'.any-gone
-          (Syntax.tyStruct (List._∷_ 38 (List._∷_ 91 (List._∷_ 93 List.[]))) (Syntax.tcons (Syntax.tyRef Syntax.erased Syntax.mut (Syntax.tyArray (Syntax.tyInt Syntax.w32) 3))
-          (Syntax.tcons (Syntax.tyInt Syntax.w64) Syntax.tnil))),
-    ) (List._∷_ (15, Rows.arrF (Referent.rtF (Referent.fInt Syntax.w32)) 3 0) List.[])))))))))))))))
-
-abbrev pub t31 : List.List Row.Entry
-t31 = List._∷_ (
-  0,
-  Rows'.any-gone (Syntax.tyEnum (List._∷_ 103 (List._∷_ 114 (List._∷_ 101 (List._∷_ 101 (List._∷_ 110 (List._∷_ 119 (List._∷_ 97 (List._∷_ 108 (List._∷_ 100
-      (List._∷_ 95 (List._∷_ 107 (List._∷_ 104 (List._∷_ 97 (List._∷_ 110 (List._∷_ 110 (List._∷_ 97 (List._∷_ 58 (List._∷_ 58 (List._∷_ 73 (List._∷_ 110 (List._∷_ 115 (List._∷_ 101
-      (List._∷_ 114 (List._∷_ 116 (List._∷_ 101 (List._∷_ 100 List.[])))))))))))))))))))))))))) (Syntax.ttcons (Syntax.tcons (Syntax.tyStruct (List._∷_ 103 (List._∷_ 114 (List._∷_
-      101 (List._∷_ 101 (List._∷_ 110 (List._∷_ 119 (List._∷_ 97 (List._∷_ 108 (List._∷_ 100 (List._∷_ 95 (List._∷_ 107 (List._∷_ 104 (List._∷_ 97 (List._∷_ 110 (List._∷_ 110
-      (List._∷_ 97 (List._∷_ 58 (List._∷_ 58 (List._∷_ 83 (List._∷_ 116 (List._∷_ 114 (List._∷_ 101 (List._∷_ 97 (List._∷_ 109 List.[])))))))))))))))))))))))) (Syntax.tcons
-      (Syntax.tyStruct (List._∷_ 102 (List._∷_ 114 (List._∷_ 97 (List._∷_ 99 (List._∷_ 116 (List._∷_ 105 (List._∷_ 111 (List._∷_ 110 (List._∷_ 58 (List._∷_ 58 (List._∷_ 70 (List._∷_
-      114 (List._∷_ 97 (List._∷_ 99 (List._∷_ 116 (List._∷_ 105 (List._∷_ 111 (List._∷_ 110 List.[])))))))))))))))))) (Syntax.tcons (Syntax.tyInt Syntax.w32) (Syntax.tcons
-      (Syntax.tyInt Syntax.w32) Syntax.tnil))) (Syntax.tcons (Syntax.tyInt Syntax.w32) (Syntax.tcons (Syntax.tyInt Syntax.w32) Syntax.tnil)))) Syntax.tnil) (Syntax.ttcons
-      (Syntax.tcons (Syntax.tyEnum (List._∷_ 114 (List._∷_ 101 (List._∷_ 102 (List._∷_ 117 (List._∷_ 115 (List._∷_ 97 (List._∷_ 108 (List._∷_ 58 (List._∷_ 58 (List._∷_ 82 (List._∷_
-      101 (List._∷_ 102 (List._∷_ 117 (List._∷_ 115 (List._∷_ 97 (List._∷_ 108 List.[])))))))))))))))) (Syntax.ttcons Syntax.tnil (Syntax.ttcons Syntax.tnil (Syntax.ttcons
-      Syntax.tnil (Syntax.ttcons Syntax.tnil (Syntax.ttcons Syntax.tnil (Syntax.ttcons Syntax.tnil (Syntax.ttcons Syntax.tnil (Syntax.ttcons Syntax.tnil (Syntax.ttcons Syntax.tnil
-      (Syntax.ttcons Syntax.tnil (Syntax.ttcons Syntax.tnil (Syntax.ttcons Syntax.tnil Syntax.ttnil))))))))))))) Syntax.tnil) Syntax.ttnil))),
-) (List._∷_ (
-  1,
-  Rows'.whole
-      (Declared'.row Stream.the-type),
-) (List._∷_ (2, Mut.mslice Of.R (Syntax.tyRef (Syntax.named 0) Syntax.mut Of.tyBy) 0) (List._∷_ (3, Rows'.sc-here (Row.sInt Syntax.w32))
-    (List._∷_ (4, Rows'.sc-here (Row.sInt Syntax.w64)) (List._∷_ (5, Rows'.sc-here (Row.sInt Syntax.w64)) (List._∷_ (
-      6,
-      Rows'.any-gone (Syntax.tyArray (Syntax.tyArray
-          (Syntax.tyInt Syntax.w32) 3) 256),
-    ) (List._∷_ (7, Rows'.whole (Array'.Array (Array'.Array (Referent.rtF (Referent.fInt Syntax.w32)) 3) 4096)) (List._∷_ (
-      8,
-      Rows'.any-gone
-          Syntax.tyBool,
-    ) (List._∷_ (
-      9,
-      Rows'.any-gone (Syntax.tyEnum (List._∷_ 114 (List._∷_ 101 (List._∷_ 102 (List._∷_ 117 (List._∷_ 115 (List._∷_ 97 (List._∷_ 108 (List._∷_ 58
-          (List._∷_ 58 (List._∷_ 82 (List._∷_ 101 (List._∷_ 102 (List._∷_ 117 (List._∷_ 115 (List._∷_ 97 (List._∷_ 108 List.[])))))))))))))))) (Syntax.ttcons Syntax.tnil (Syntax.ttcons
-          Syntax.tnil (Syntax.ttcons Syntax.tnil (Syntax.ttcons Syntax.tnil (Syntax.ttcons Syntax.tnil (Syntax.ttcons Syntax.tnil (Syntax.ttcons Syntax.tnil (Syntax.ttcons Syntax.tnil
-          (Syntax.ttcons Syntax.tnil (Syntax.ttcons Syntax.tnil (Syntax.ttcons Syntax.tnil (Syntax.ttcons Syntax.tnil Syntax.ttnil))))))))))))),
-    ) (List._∷_ (
-      10,
-      Rows'.any-gone
-          (Syntax.tyArray (Syntax.tyInt Syntax.w32) 3),
-    ) (List._∷_ (11, Rows'.any-gone (Syntax.tyRef Syntax.erased Syntax.mut Of.tyBy)) (List._∷_ (
-      12,
-      Rows'.any-gone (Syntax.tyStruct
-          (List._∷_ 38 (List._∷_ 91 (List._∷_ 93 List.[]))) (Syntax.tcons (Syntax.tyRef Syntax.erased Syntax.mut Of.tyBy) (Syntax.tcons (Syntax.tyInt Syntax.w64) Syntax.tnil))),
-    )
-    (List._∷_ (13, Rows'.any-gone (Syntax.tyRef Syntax.erased Syntax.mut (Syntax.tyArray (Syntax.tyArray (Syntax.tyInt Syntax.w32) 3) 256))) (List._∷_ (
-      14,
-      Rows'.any-gone
-          (Syntax.tyStruct (List._∷_ 38 (List._∷_ 91 (List._∷_ 93 List.[]))) (Syntax.tcons (Syntax.tyRef Syntax.erased Syntax.mut (Syntax.tyArray (Syntax.tyInt Syntax.w32) 3))
-          (Syntax.tcons (Syntax.tyInt Syntax.w64) Syntax.tnil))),
-    ) (List._∷_ (15, Rows.arrF (Referent.rtF (Referent.fInt Syntax.w32)) 3 0) List.[])))))))))))))))
-
-abbrev pub t32 : List.List Row.Entry
-t32 = List._∷_ (
-  0,
-  Rows'.any-gone (Syntax.tyEnum (List._∷_ 103 (List._∷_ 114 (List._∷_ 101 (List._∷_ 101 (List._∷_ 110 (List._∷_ 119 (List._∷_ 97 (List._∷_ 108 (List._∷_ 100
-      (List._∷_ 95 (List._∷_ 107 (List._∷_ 104 (List._∷_ 97 (List._∷_ 110 (List._∷_ 110 (List._∷_ 97 (List._∷_ 58 (List._∷_ 58 (List._∷_ 73 (List._∷_ 110 (List._∷_ 115 (List._∷_ 101
-      (List._∷_ 114 (List._∷_ 116 (List._∷_ 101 (List._∷_ 100 List.[])))))))))))))))))))))))))) (Syntax.ttcons (Syntax.tcons (Syntax.tyStruct (List._∷_ 103 (List._∷_ 114 (List._∷_
-      101 (List._∷_ 101 (List._∷_ 110 (List._∷_ 119 (List._∷_ 97 (List._∷_ 108 (List._∷_ 100 (List._∷_ 95 (List._∷_ 107 (List._∷_ 104 (List._∷_ 97 (List._∷_ 110 (List._∷_ 110
-      (List._∷_ 97 (List._∷_ 58 (List._∷_ 58 (List._∷_ 83 (List._∷_ 116 (List._∷_ 114 (List._∷_ 101 (List._∷_ 97 (List._∷_ 109 List.[])))))))))))))))))))))))) (Syntax.tcons
-      (Syntax.tyStruct (List._∷_ 102 (List._∷_ 114 (List._∷_ 97 (List._∷_ 99 (List._∷_ 116 (List._∷_ 105 (List._∷_ 111 (List._∷_ 110 (List._∷_ 58 (List._∷_ 58 (List._∷_ 70 (List._∷_
-      114 (List._∷_ 97 (List._∷_ 99 (List._∷_ 116 (List._∷_ 105 (List._∷_ 111 (List._∷_ 110 List.[])))))))))))))))))) (Syntax.tcons (Syntax.tyInt Syntax.w32) (Syntax.tcons
-      (Syntax.tyInt Syntax.w32) Syntax.tnil))) (Syntax.tcons (Syntax.tyInt Syntax.w32) (Syntax.tcons (Syntax.tyInt Syntax.w32) Syntax.tnil)))) Syntax.tnil) (Syntax.ttcons
-      (Syntax.tcons (Syntax.tyEnum (List._∷_ 114 (List._∷_ 101 (List._∷_ 102 (List._∷_ 117 (List._∷_ 115 (List._∷_ 97 (List._∷_ 108 (List._∷_ 58 (List._∷_ 58 (List._∷_ 82 (List._∷_
-      101 (List._∷_ 102 (List._∷_ 117 (List._∷_ 115 (List._∷_ 97 (List._∷_ 108 List.[])))))))))))))))) (Syntax.ttcons Syntax.tnil (Syntax.ttcons Syntax.tnil (Syntax.ttcons
-      Syntax.tnil (Syntax.ttcons Syntax.tnil (Syntax.ttcons Syntax.tnil (Syntax.ttcons Syntax.tnil (Syntax.ttcons Syntax.tnil (Syntax.ttcons Syntax.tnil (Syntax.ttcons Syntax.tnil
-      (Syntax.ttcons Syntax.tnil (Syntax.ttcons Syntax.tnil (Syntax.ttcons Syntax.tnil Syntax.ttnil))))))))))))) Syntax.tnil) Syntax.ttnil))),
-) (List._∷_ (
-  1,
-  Rows'.whole
-      (Declared'.row Stream.the-type),
-) (List._∷_ (2, Mut.mslice Of.R (Syntax.tyRef (Syntax.named 0) Syntax.mut Of.tyBy) 0) (List._∷_ (3, Rows'.sc-here (Row.sInt Syntax.w32))
-    (List._∷_ (4, Rows'.sc-here (Row.sInt Syntax.w64)) (List._∷_ (5, Rows'.sc-here (Row.sInt Syntax.w64)) (List._∷_ (
-      6,
-      Rows'.any-gone (Syntax.tyArray (Syntax.tyArray
-          (Syntax.tyInt Syntax.w32) 3) 256),
-    ) (List._∷_ (7, Rows.arrF (Array'.Array (Referent.rtF (Referent.fInt Syntax.w32)) 3) 4096 0) (List._∷_ (8, Rows'.any-gone Syntax.tyBool)
-    (List._∷_ (
-      9,
-      Rows'.any-gone (Syntax.tyEnum (List._∷_ 114 (List._∷_ 101 (List._∷_ 102 (List._∷_ 117 (List._∷_ 115 (List._∷_ 97 (List._∷_ 108 (List._∷_ 58 (List._∷_ 58
-          (List._∷_ 82 (List._∷_ 101 (List._∷_ 102 (List._∷_ 117 (List._∷_ 115 (List._∷_ 97 (List._∷_ 108 List.[])))))))))))))))) (Syntax.ttcons Syntax.tnil (Syntax.ttcons Syntax.tnil
-          (Syntax.ttcons Syntax.tnil (Syntax.ttcons Syntax.tnil (Syntax.ttcons Syntax.tnil (Syntax.ttcons Syntax.tnil (Syntax.ttcons Syntax.tnil (Syntax.ttcons Syntax.tnil (Syntax.ttcons
-          Syntax.tnil (Syntax.ttcons Syntax.tnil (Syntax.ttcons Syntax.tnil (Syntax.ttcons Syntax.tnil Syntax.ttnil))))))))))))),
-    ) (List._∷_ (
-      10,
-      Rows'.any-gone (Syntax.tyArray
-          (Syntax.tyInt Syntax.w32) 3),
-    ) (List._∷_ (11, Rows'.any-gone (Syntax.tyRef Syntax.erased Syntax.mut Of.tyBy)) (List._∷_ (
-      12,
-      Rows'.any-gone (Syntax.tyStruct (List._∷_ 38
-          (List._∷_ 91 (List._∷_ 93 List.[]))) (Syntax.tcons (Syntax.tyRef Syntax.erased Syntax.mut Of.tyBy) (Syntax.tcons (Syntax.tyInt Syntax.w64) Syntax.tnil))),
-    ) (List._∷_ (
-      13,
-      Rows'.any-gone (Syntax.tyRef Syntax.erased Syntax.mut (Syntax.tyArray (Syntax.tyArray (Syntax.tyInt Syntax.w32) 3) 256)),
-    ) (List._∷_ (
-      14,
-      Rows'.any-gone (Syntax.tyStruct
-          (List._∷_ 38 (List._∷_ 91 (List._∷_ 93 List.[]))) (Syntax.tcons (Syntax.tyRef Syntax.erased Syntax.mut (Syntax.tyArray (Syntax.tyInt Syntax.w32) 3)) (Syntax.tcons (Syntax.tyInt
-          Syntax.w64) Syntax.tnil))),
-    ) (List._∷_ (15, Rows.arrF (Referent.rtF (Referent.fInt Syntax.w32)) 3 0) List.[])))))))))))))))
-
-abbrev pub t33 : List.List Row.Entry
-t33 = List._∷_ (
-  0,
-  Rows'.any-gone (Syntax.tyEnum (List._∷_ 103 (List._∷_ 114 (List._∷_ 101 (List._∷_ 101 (List._∷_ 110 (List._∷_ 119 (List._∷_ 97 (List._∷_ 108 (List._∷_ 100
-      (List._∷_ 95 (List._∷_ 107 (List._∷_ 104 (List._∷_ 97 (List._∷_ 110 (List._∷_ 110 (List._∷_ 97 (List._∷_ 58 (List._∷_ 58 (List._∷_ 73 (List._∷_ 110 (List._∷_ 115 (List._∷_ 101
-      (List._∷_ 114 (List._∷_ 116 (List._∷_ 101 (List._∷_ 100 List.[])))))))))))))))))))))))))) (Syntax.ttcons (Syntax.tcons (Syntax.tyStruct (List._∷_ 103 (List._∷_ 114 (List._∷_
-      101 (List._∷_ 101 (List._∷_ 110 (List._∷_ 119 (List._∷_ 97 (List._∷_ 108 (List._∷_ 100 (List._∷_ 95 (List._∷_ 107 (List._∷_ 104 (List._∷_ 97 (List._∷_ 110 (List._∷_ 110
-      (List._∷_ 97 (List._∷_ 58 (List._∷_ 58 (List._∷_ 83 (List._∷_ 116 (List._∷_ 114 (List._∷_ 101 (List._∷_ 97 (List._∷_ 109 List.[])))))))))))))))))))))))) (Syntax.tcons
-      (Syntax.tyStruct (List._∷_ 102 (List._∷_ 114 (List._∷_ 97 (List._∷_ 99 (List._∷_ 116 (List._∷_ 105 (List._∷_ 111 (List._∷_ 110 (List._∷_ 58 (List._∷_ 58 (List._∷_ 70 (List._∷_
-      114 (List._∷_ 97 (List._∷_ 99 (List._∷_ 116 (List._∷_ 105 (List._∷_ 111 (List._∷_ 110 List.[])))))))))))))))))) (Syntax.tcons (Syntax.tyInt Syntax.w32) (Syntax.tcons
-      (Syntax.tyInt Syntax.w32) Syntax.tnil))) (Syntax.tcons (Syntax.tyInt Syntax.w32) (Syntax.tcons (Syntax.tyInt Syntax.w32) Syntax.tnil)))) Syntax.tnil) (Syntax.ttcons
-      (Syntax.tcons (Syntax.tyEnum (List._∷_ 114 (List._∷_ 101 (List._∷_ 102 (List._∷_ 117 (List._∷_ 115 (List._∷_ 97 (List._∷_ 108 (List._∷_ 58 (List._∷_ 58 (List._∷_ 82 (List._∷_
-      101 (List._∷_ 102 (List._∷_ 117 (List._∷_ 115 (List._∷_ 97 (List._∷_ 108 List.[])))))))))))))))) (Syntax.ttcons Syntax.tnil (Syntax.ttcons Syntax.tnil (Syntax.ttcons
-      Syntax.tnil (Syntax.ttcons Syntax.tnil (Syntax.ttcons Syntax.tnil (Syntax.ttcons Syntax.tnil (Syntax.ttcons Syntax.tnil (Syntax.ttcons Syntax.tnil (Syntax.ttcons Syntax.tnil
-      (Syntax.ttcons Syntax.tnil (Syntax.ttcons Syntax.tnil (Syntax.ttcons Syntax.tnil Syntax.ttnil))))))))))))) Syntax.tnil) Syntax.ttnil))),
-) (List._∷_ (
-  1,
-  Rows'.whole
-      (Declared'.row Stream.the-type),
-) (List._∷_ (2, Mut.mslice Of.R (Syntax.tyRef (Syntax.named 0) Syntax.mut Of.tyBy) 0) (List._∷_ (3, Rows'.sc-here (Row.sInt Syntax.w32))
-    (List._∷_ (4, Rows'.sc-here (Row.sInt Syntax.w64)) (List._∷_ (5, Rows'.sc-here (Row.sInt Syntax.w64)) (List._∷_ (
-      6,
-      Rows'.any-gone (Syntax.tyArray (Syntax.tyArray
-          (Syntax.tyInt Syntax.w32) 3) 256),
-    ) (List._∷_ (7, Rows.arrF (Array'.Array (Referent.rtF (Referent.fInt Syntax.w32)) 3) 4096 0) (List._∷_ (8, Rows'.any-gone Syntax.tyBool)
-    (List._∷_ (
-      9,
-      Rows'.any-gone (Syntax.tyEnum (List._∷_ 114 (List._∷_ 101 (List._∷_ 102 (List._∷_ 117 (List._∷_ 115 (List._∷_ 97 (List._∷_ 108 (List._∷_ 58 (List._∷_ 58
-          (List._∷_ 82 (List._∷_ 101 (List._∷_ 102 (List._∷_ 117 (List._∷_ 115 (List._∷_ 97 (List._∷_ 108 List.[])))))))))))))))) (Syntax.ttcons Syntax.tnil (Syntax.ttcons Syntax.tnil
-          (Syntax.ttcons Syntax.tnil (Syntax.ttcons Syntax.tnil (Syntax.ttcons Syntax.tnil (Syntax.ttcons Syntax.tnil (Syntax.ttcons Syntax.tnil (Syntax.ttcons Syntax.tnil (Syntax.ttcons
-          Syntax.tnil (Syntax.ttcons Syntax.tnil (Syntax.ttcons Syntax.tnil (Syntax.ttcons Syntax.tnil Syntax.ttnil))))))))))))),
-    ) (List._∷_ (
-      10,
-      Rows'.any-gone (Syntax.tyArray
-          (Syntax.tyInt Syntax.w32) 3),
-    ) (List._∷_ (11, Rows'.any-gone (Syntax.tyRef Syntax.erased Syntax.mut Of.tyBy)) (List._∷_ (
-      12,
-      Rows'.any-gone (Syntax.tyStruct (List._∷_ 38
-          (List._∷_ 91 (List._∷_ 93 List.[]))) (Syntax.tcons (Syntax.tyRef Syntax.erased Syntax.mut Of.tyBy) (Syntax.tcons (Syntax.tyInt Syntax.w64) Syntax.tnil))),
-    ) (List._∷_ (
-      13,
-      Rows'.any-gone (Syntax.tyRef Syntax.erased Syntax.mut (Syntax.tyArray (Syntax.tyArray (Syntax.tyInt Syntax.w32) 3) 256)),
-    ) (List._∷_ (
-      14,
-      Rows'.any-gone (Syntax.tyStruct
-          (List._∷_ 38 (List._∷_ 91 (List._∷_ 93 List.[]))) (Syntax.tcons (Syntax.tyRef Syntax.erased Syntax.mut (Syntax.tyArray (Syntax.tyInt Syntax.w32) 3)) (Syntax.tcons (Syntax.tyInt
-          Syntax.w64) Syntax.tnil))),
-    ) (List._∷_ (15, Rows'.any-gone (Syntax.tyArray (Syntax.tyInt Syntax.w32) 3)) List.[])))))))))))))))
-
 abbrev pub t34 : List.List Row.Entry
 t34 = List._∷_ (
   0,
@@ -1912,51 +1907,55 @@ t34 = List._∷_ (
       (List._∷_ 95 (List._∷_ 107 (List._∷_ 104 (List._∷_ 97 (List._∷_ 110 (List._∷_ 110 (List._∷_ 97 (List._∷_ 58 (List._∷_ 58 (List._∷_ 73 (List._∷_ 110 (List._∷_ 115 (List._∷_ 101
       (List._∷_ 114 (List._∷_ 116 (List._∷_ 101 (List._∷_ 100 List.[])))))))))))))))))))))))))) (Syntax.ttcons (Syntax.tcons (Syntax.tyStruct (List._∷_ 103 (List._∷_ 114 (List._∷_
       101 (List._∷_ 101 (List._∷_ 110 (List._∷_ 119 (List._∷_ 97 (List._∷_ 108 (List._∷_ 100 (List._∷_ 95 (List._∷_ 107 (List._∷_ 104 (List._∷_ 97 (List._∷_ 110 (List._∷_ 110
-      (List._∷_ 97 (List._∷_ 58 (List._∷_ 58 (List._∷_ 83 (List._∷_ 116 (List._∷_ 114 (List._∷_ 101 (List._∷_ 97 (List._∷_ 109 List.[])))))))))))))))))))))))) (Syntax.tcons
-      (Syntax.tyStruct (List._∷_ 102 (List._∷_ 114 (List._∷_ 97 (List._∷_ 99 (List._∷_ 116 (List._∷_ 105 (List._∷_ 111 (List._∷_ 110 (List._∷_ 58 (List._∷_ 58 (List._∷_ 70 (List._∷_
-      114 (List._∷_ 97 (List._∷_ 99 (List._∷_ 116 (List._∷_ 105 (List._∷_ 111 (List._∷_ 110 List.[])))))))))))))))))) (Syntax.tcons (Syntax.tyInt Syntax.w32) (Syntax.tcons
-      (Syntax.tyInt Syntax.w32) Syntax.tnil))) (Syntax.tcons (Syntax.tyInt Syntax.w32) (Syntax.tcons (Syntax.tyInt Syntax.w32) Syntax.tnil)))) Syntax.tnil) (Syntax.ttcons
-      (Syntax.tcons (Syntax.tyEnum (List._∷_ 114 (List._∷_ 101 (List._∷_ 102 (List._∷_ 117 (List._∷_ 115 (List._∷_ 97 (List._∷_ 108 (List._∷_ 58 (List._∷_ 58 (List._∷_ 82 (List._∷_
-      101 (List._∷_ 102 (List._∷_ 117 (List._∷_ 115 (List._∷_ 97 (List._∷_ 108 List.[])))))))))))))))) (Syntax.ttcons Syntax.tnil (Syntax.ttcons Syntax.tnil (Syntax.ttcons
-      Syntax.tnil (Syntax.ttcons Syntax.tnil (Syntax.ttcons Syntax.tnil (Syntax.ttcons Syntax.tnil (Syntax.ttcons Syntax.tnil (Syntax.ttcons Syntax.tnil (Syntax.ttcons Syntax.tnil
-      (Syntax.ttcons Syntax.tnil (Syntax.ttcons Syntax.tnil (Syntax.ttcons Syntax.tnil Syntax.ttnil))))))))))))) Syntax.tnil) Syntax.ttnil))),
-) (List._∷_ (
-  1,
-  Rows'.whole
-      (Declared'.row Stream.the-type),
-) (List._∷_ (2, Relend.mslice-owed Of.R (Syntax.tyRef (Syntax.named 0) Syntax.mut Of.tyBy) 0 3 Row.off) (List._∷_ (
-  3,
+      (List._∷_ 97 (List._∷_ 95 (List._∷_ 115 (List._∷_ 116 (List._∷_ 101 (List._∷_ 112 (List._∷_ 115 (List._∷_ 58 (List._∷_ 58 (List._∷_ 83 (List._∷_ 116 (List._∷_ 114 (List._∷_ 101
+      (List._∷_ 97 (List._∷_ 109 List.[])))))))))))))))))))))))))))))) (Syntax.tcons (Syntax.tyStruct (List._∷_ 102 (List._∷_ 114 (List._∷_ 97 (List._∷_ 99 (List._∷_ 116 (List._∷_
+      105 (List._∷_ 111 (List._∷_ 110 (List._∷_ 58 (List._∷_ 58 (List._∷_ 70 (List._∷_ 114 (List._∷_ 97 (List._∷_ 99 (List._∷_ 116 (List._∷_ 105 (List._∷_ 111 (List._∷_ 110
+      List.[])))))))))))))))))) (Syntax.tcons (Syntax.tyInt Syntax.w32) (Syntax.tcons (Syntax.tyInt Syntax.w32) Syntax.tnil))) (Syntax.tcons (Syntax.tyInt Syntax.w32) (Syntax.tcons
+      (Syntax.tyInt Syntax.w32) Syntax.tnil)))) Syntax.tnil) (Syntax.ttcons (Syntax.tcons (Syntax.tyEnum (List._∷_ 114 (List._∷_ 101 (List._∷_ 102 (List._∷_ 117 (List._∷_ 115
+      (List._∷_ 97 (List._∷_ 108 (List._∷_ 58 (List._∷_ 58 (List._∷_ 82 (List._∷_ 101 (List._∷_ 102 (List._∷_ 117 (List._∷_ 115 (List._∷_ 97 (List._∷_ 108 List.[]))))))))))))))))
+      (Syntax.ttcons Syntax.tnil (Syntax.ttcons Syntax.tnil (Syntax.ttcons Syntax.tnil (Syntax.ttcons Syntax.tnil (Syntax.ttcons Syntax.tnil (Syntax.ttcons Syntax.tnil (Syntax.ttcons
+      Syntax.tnil (Syntax.ttcons Syntax.tnil (Syntax.ttcons Syntax.tnil (Syntax.ttcons Syntax.tnil (Syntax.ttcons Syntax.tnil (Syntax.ttcons Syntax.tnil Syntax.ttnil)))))))))))))
+      Syntax.tnil) Syntax.ttnil))),
+) (List._∷_ (1, Rows'.whole (Declared'.row Stream.the-type)) (List._∷_ (
+  2,
+  Relend.mslice-owed Of.R (Syntax.tyRef (Syntax.named 0) Syntax.mut
+      Of.tyBy) 0 3 Row.off,
+) (List._∷_ (3, Rows'.sc-here (Row.sInt Syntax.w32)) (List._∷_ (4, Rows'.sc-here (Row.sInt Syntax.w64)) (List._∷_ (
+  5,
   Rows'.sc-here (Row.sInt
-      Syntax.w32),
-) (List._∷_ (4, Rows'.sc-here (Row.sInt Syntax.w64)) (List._∷_ (5, Rows'.sc-here (Row.sInt Syntax.w64)) (List._∷_ (
-  6,
-  Rows'.any-gone (Syntax.tyArray
-      (Syntax.tyArray (Syntax.tyInt Syntax.w32) 3) 256),
-) (List._∷_ (7, Rows.arrF (Array'.Array (Referent.rtF (Referent.fInt Syntax.w32)) 3) 4096 0) (List._∷_ (
-  8,
-  Rows'.any-gone
-      Syntax.tyBool,
-) (List._∷_ (
+      Syntax.w64),
+) (List._∷_ (6, Rows'.any-gone (Syntax.tyArray (Syntax.tyArray (Syntax.tyInt Syntax.w32) 3) 256)) (List._∷_ (
+  7,
+  Rows.arrF (Array'.Array (Referent.rtF
+      (Referent.fInt Syntax.w32)) 3) 4096 0,
+) (List._∷_ (8, Rows'.any-gone Syntax.tyBool) (List._∷_ (
   9,
-  Rows'.any-gone (Syntax.tyEnum (List._∷_ 114 (List._∷_ 101 (List._∷_ 102 (List._∷_ 117 (List._∷_ 115 (List._∷_ 97 (List._∷_ 108 (List._∷_ 58
-      (List._∷_ 58 (List._∷_ 82 (List._∷_ 101 (List._∷_ 102 (List._∷_ 117 (List._∷_ 115 (List._∷_ 97 (List._∷_ 108 List.[])))))))))))))))) (Syntax.ttcons Syntax.tnil (Syntax.ttcons
+  Rows'.any-gone (Syntax.tyEnum (List._∷_ 114 (List._∷_ 101 (List._∷_ 102
+      (List._∷_ 117 (List._∷_ 115 (List._∷_ 97 (List._∷_ 108 (List._∷_ 58 (List._∷_ 58 (List._∷_ 82 (List._∷_ 101 (List._∷_ 102 (List._∷_ 117 (List._∷_ 115 (List._∷_ 97 (List._∷_ 108
+      List.[])))))))))))))))) (Syntax.ttcons Syntax.tnil (Syntax.ttcons Syntax.tnil (Syntax.ttcons Syntax.tnil (Syntax.ttcons Syntax.tnil (Syntax.ttcons Syntax.tnil (Syntax.ttcons
       Syntax.tnil (Syntax.ttcons Syntax.tnil (Syntax.ttcons Syntax.tnil (Syntax.ttcons Syntax.tnil (Syntax.ttcons Syntax.tnil (Syntax.ttcons Syntax.tnil (Syntax.ttcons Syntax.tnil
-      (Syntax.ttcons Syntax.tnil (Syntax.ttcons Syntax.tnil (Syntax.ttcons Syntax.tnil (Syntax.ttcons Syntax.tnil Syntax.ttnil))))))))))))),
+      Syntax.ttnil))))))))))))),
+) (List._∷_ (10, Rows'.any-gone (Syntax.tyArray (Syntax.tyInt Syntax.w32) 3)) (List._∷_ (
+  11,
+  Rows'.any-gone (Syntax.tyRef Syntax.erased Syntax.mut
+      Of.tyBy),
 ) (List._∷_ (
-  10,
-  Rows'.any-gone
-      (Syntax.tyArray (Syntax.tyInt Syntax.w32) 3),
-) (List._∷_ (11, Rows'.any-gone (Syntax.tyRef Syntax.erased Syntax.mut Of.tyBy)) (List._∷_ (
   12,
-  Rows'.any-gone (Syntax.tyStruct
-      (List._∷_ 38 (List._∷_ 91 (List._∷_ 93 List.[]))) (Syntax.tcons (Syntax.tyRef Syntax.erased Syntax.mut Of.tyBy) (Syntax.tcons (Syntax.tyInt Syntax.w64) Syntax.tnil))),
-)
-    (List._∷_ (13, Rows'.any-gone (Syntax.tyRef Syntax.erased Syntax.mut (Syntax.tyArray (Syntax.tyArray (Syntax.tyInt Syntax.w32) 3) 256))) (List._∷_ (
-      14,
-      Rows'.any-gone
-          (Syntax.tyStruct (List._∷_ 38 (List._∷_ 91 (List._∷_ 93 List.[]))) (Syntax.tcons (Syntax.tyRef Syntax.erased Syntax.mut (Syntax.tyArray (Syntax.tyInt Syntax.w32) 3))
-          (Syntax.tcons (Syntax.tyInt Syntax.w64) Syntax.tnil))),
-    ) (List._∷_ (15, Rows'.any-gone (Syntax.tyArray (Syntax.tyInt Syntax.w32) 3)) List.[])))))))))))))))
+  Rows'.any-gone (Syntax.tyStruct (List._∷_ 38 (List._∷_ 91 (List._∷_ 93 List.[]))) (Syntax.tcons (Syntax.tyRef Syntax.erased Syntax.mut Of.tyBy)
+      (Syntax.tcons (Syntax.tyInt Syntax.w64) Syntax.tnil))),
+) (List._∷_ (
+  13,
+  Rows'.any-gone (Syntax.tyRef Syntax.erased Syntax.mut (Syntax.tyArray (Syntax.tyArray (Syntax.tyInt
+      Syntax.w32) 3) 256)),
+) (List._∷_ (
+  14,
+  Rows'.any-gone (Syntax.tyStruct (List._∷_ 38 (List._∷_ 91 (List._∷_ 93 List.[]))) (Syntax.tcons (Syntax.tyRef Syntax.erased Syntax.mut
+      (Syntax.tyArray (Syntax.tyInt Syntax.w32) 3)) (Syntax.tcons (Syntax.tyInt Syntax.w64) Syntax.tnil))),
+) (List._∷_ (
+  15,
+  Rows'.any-gone (Syntax.tyArray (Syntax.tyInt Syntax.w32)
+      3),
+) List.[])))))))))))))))
 
 abbrev pub t35 : List.List Row.Entry
 t35 = List._∷_ (16, Relend.msptr Of.R (Syntax.tyRef Syntax.erased Syntax.mut Of.tyBy) 3) (List._∷_ (
@@ -1990,51 +1989,55 @@ t37 = List._∷_ (
       (List._∷_ 95 (List._∷_ 107 (List._∷_ 104 (List._∷_ 97 (List._∷_ 110 (List._∷_ 110 (List._∷_ 97 (List._∷_ 58 (List._∷_ 58 (List._∷_ 73 (List._∷_ 110 (List._∷_ 115 (List._∷_ 101
       (List._∷_ 114 (List._∷_ 116 (List._∷_ 101 (List._∷_ 100 List.[])))))))))))))))))))))))))) (Syntax.ttcons (Syntax.tcons (Syntax.tyStruct (List._∷_ 103 (List._∷_ 114 (List._∷_
       101 (List._∷_ 101 (List._∷_ 110 (List._∷_ 119 (List._∷_ 97 (List._∷_ 108 (List._∷_ 100 (List._∷_ 95 (List._∷_ 107 (List._∷_ 104 (List._∷_ 97 (List._∷_ 110 (List._∷_ 110
-      (List._∷_ 97 (List._∷_ 58 (List._∷_ 58 (List._∷_ 83 (List._∷_ 116 (List._∷_ 114 (List._∷_ 101 (List._∷_ 97 (List._∷_ 109 List.[])))))))))))))))))))))))) (Syntax.tcons
-      (Syntax.tyStruct (List._∷_ 102 (List._∷_ 114 (List._∷_ 97 (List._∷_ 99 (List._∷_ 116 (List._∷_ 105 (List._∷_ 111 (List._∷_ 110 (List._∷_ 58 (List._∷_ 58 (List._∷_ 70 (List._∷_
-      114 (List._∷_ 97 (List._∷_ 99 (List._∷_ 116 (List._∷_ 105 (List._∷_ 111 (List._∷_ 110 List.[])))))))))))))))))) (Syntax.tcons (Syntax.tyInt Syntax.w32) (Syntax.tcons
-      (Syntax.tyInt Syntax.w32) Syntax.tnil))) (Syntax.tcons (Syntax.tyInt Syntax.w32) (Syntax.tcons (Syntax.tyInt Syntax.w32) Syntax.tnil)))) Syntax.tnil) (Syntax.ttcons
-      (Syntax.tcons (Syntax.tyEnum (List._∷_ 114 (List._∷_ 101 (List._∷_ 102 (List._∷_ 117 (List._∷_ 115 (List._∷_ 97 (List._∷_ 108 (List._∷_ 58 (List._∷_ 58 (List._∷_ 82 (List._∷_
-      101 (List._∷_ 102 (List._∷_ 117 (List._∷_ 115 (List._∷_ 97 (List._∷_ 108 List.[])))))))))))))))) (Syntax.ttcons Syntax.tnil (Syntax.ttcons Syntax.tnil (Syntax.ttcons
-      Syntax.tnil (Syntax.ttcons Syntax.tnil (Syntax.ttcons Syntax.tnil (Syntax.ttcons Syntax.tnil (Syntax.ttcons Syntax.tnil (Syntax.ttcons Syntax.tnil (Syntax.ttcons Syntax.tnil
-      (Syntax.ttcons Syntax.tnil (Syntax.ttcons Syntax.tnil (Syntax.ttcons Syntax.tnil Syntax.ttnil))))))))))))) Syntax.tnil) Syntax.ttnil))),
-) (List._∷_ (
-  1,
-  Rows'.whole
-      (Declared'.row Stream.the-type),
-) (List._∷_ (2, Relend.mslice-owed Of.R (Syntax.tyRef (Syntax.named 0) Syntax.mut Of.tyBy) 0 3 Row.off) (List._∷_ (
-  3,
+      (List._∷_ 97 (List._∷_ 95 (List._∷_ 115 (List._∷_ 116 (List._∷_ 101 (List._∷_ 112 (List._∷_ 115 (List._∷_ 58 (List._∷_ 58 (List._∷_ 83 (List._∷_ 116 (List._∷_ 114 (List._∷_ 101
+      (List._∷_ 97 (List._∷_ 109 List.[])))))))))))))))))))))))))))))) (Syntax.tcons (Syntax.tyStruct (List._∷_ 102 (List._∷_ 114 (List._∷_ 97 (List._∷_ 99 (List._∷_ 116 (List._∷_
+      105 (List._∷_ 111 (List._∷_ 110 (List._∷_ 58 (List._∷_ 58 (List._∷_ 70 (List._∷_ 114 (List._∷_ 97 (List._∷_ 99 (List._∷_ 116 (List._∷_ 105 (List._∷_ 111 (List._∷_ 110
+      List.[])))))))))))))))))) (Syntax.tcons (Syntax.tyInt Syntax.w32) (Syntax.tcons (Syntax.tyInt Syntax.w32) Syntax.tnil))) (Syntax.tcons (Syntax.tyInt Syntax.w32) (Syntax.tcons
+      (Syntax.tyInt Syntax.w32) Syntax.tnil)))) Syntax.tnil) (Syntax.ttcons (Syntax.tcons (Syntax.tyEnum (List._∷_ 114 (List._∷_ 101 (List._∷_ 102 (List._∷_ 117 (List._∷_ 115
+      (List._∷_ 97 (List._∷_ 108 (List._∷_ 58 (List._∷_ 58 (List._∷_ 82 (List._∷_ 101 (List._∷_ 102 (List._∷_ 117 (List._∷_ 115 (List._∷_ 97 (List._∷_ 108 List.[]))))))))))))))))
+      (Syntax.ttcons Syntax.tnil (Syntax.ttcons Syntax.tnil (Syntax.ttcons Syntax.tnil (Syntax.ttcons Syntax.tnil (Syntax.ttcons Syntax.tnil (Syntax.ttcons Syntax.tnil (Syntax.ttcons
+      Syntax.tnil (Syntax.ttcons Syntax.tnil (Syntax.ttcons Syntax.tnil (Syntax.ttcons Syntax.tnil (Syntax.ttcons Syntax.tnil (Syntax.ttcons Syntax.tnil Syntax.ttnil)))))))))))))
+      Syntax.tnil) Syntax.ttnil))),
+) (List._∷_ (1, Rows'.whole (Declared'.row Stream.the-type)) (List._∷_ (
+  2,
+  Relend.mslice-owed Of.R (Syntax.tyRef (Syntax.named 0) Syntax.mut
+      Of.tyBy) 0 3 Row.off,
+) (List._∷_ (3, Rows'.sc-here (Row.sInt Syntax.w32)) (List._∷_ (4, Rows'.sc-here (Row.sInt Syntax.w64)) (List._∷_ (
+  5,
   Rows'.sc-here (Row.sInt
-      Syntax.w32),
-) (List._∷_ (4, Rows'.sc-here (Row.sInt Syntax.w64)) (List._∷_ (5, Rows'.sc-here (Row.sInt Syntax.w64)) (List._∷_ (
-  6,
-  Rows'.any-gone (Syntax.tyArray
-      (Syntax.tyArray (Syntax.tyInt Syntax.w32) 3) 256),
-) (List._∷_ (7, Rows.arr-owed (Array'.Array (Referent.rtF (Referent.fInt Syntax.w32)) 3) 4096 4) (List._∷_ (
-  8,
-  Rows'.any-gone
-      Syntax.tyBool,
-) (List._∷_ (
+      Syntax.w64),
+) (List._∷_ (6, Rows'.any-gone (Syntax.tyArray (Syntax.tyArray (Syntax.tyInt Syntax.w32) 3) 256)) (List._∷_ (
+  7,
+  Rows.arr-owed (Array'.Array (Referent.rtF
+      (Referent.fInt Syntax.w32)) 3) 4096 4,
+) (List._∷_ (8, Rows'.any-gone Syntax.tyBool) (List._∷_ (
   9,
-  Rows'.any-gone (Syntax.tyEnum (List._∷_ 114 (List._∷_ 101 (List._∷_ 102 (List._∷_ 117 (List._∷_ 115 (List._∷_ 97 (List._∷_ 108 (List._∷_ 58
-      (List._∷_ 58 (List._∷_ 82 (List._∷_ 101 (List._∷_ 102 (List._∷_ 117 (List._∷_ 115 (List._∷_ 97 (List._∷_ 108 List.[])))))))))))))))) (Syntax.ttcons Syntax.tnil (Syntax.ttcons
+  Rows'.any-gone (Syntax.tyEnum (List._∷_ 114 (List._∷_ 101 (List._∷_ 102
+      (List._∷_ 117 (List._∷_ 115 (List._∷_ 97 (List._∷_ 108 (List._∷_ 58 (List._∷_ 58 (List._∷_ 82 (List._∷_ 101 (List._∷_ 102 (List._∷_ 117 (List._∷_ 115 (List._∷_ 97 (List._∷_ 108
+      List.[])))))))))))))))) (Syntax.ttcons Syntax.tnil (Syntax.ttcons Syntax.tnil (Syntax.ttcons Syntax.tnil (Syntax.ttcons Syntax.tnil (Syntax.ttcons Syntax.tnil (Syntax.ttcons
       Syntax.tnil (Syntax.ttcons Syntax.tnil (Syntax.ttcons Syntax.tnil (Syntax.ttcons Syntax.tnil (Syntax.ttcons Syntax.tnil (Syntax.ttcons Syntax.tnil (Syntax.ttcons Syntax.tnil
-      (Syntax.ttcons Syntax.tnil (Syntax.ttcons Syntax.tnil (Syntax.ttcons Syntax.tnil (Syntax.ttcons Syntax.tnil Syntax.ttnil))))))))))))),
+      Syntax.ttnil))))))))))))),
+) (List._∷_ (10, Rows'.any-gone (Syntax.tyArray (Syntax.tyInt Syntax.w32) 3)) (List._∷_ (
+  11,
+  Rows'.any-gone (Syntax.tyRef Syntax.erased Syntax.mut
+      Of.tyBy),
 ) (List._∷_ (
-  10,
-  Rows'.any-gone
-      (Syntax.tyArray (Syntax.tyInt Syntax.w32) 3),
-) (List._∷_ (11, Rows'.any-gone (Syntax.tyRef Syntax.erased Syntax.mut Of.tyBy)) (List._∷_ (
   12,
-  Rows'.any-gone (Syntax.tyStruct
-      (List._∷_ 38 (List._∷_ 91 (List._∷_ 93 List.[]))) (Syntax.tcons (Syntax.tyRef Syntax.erased Syntax.mut Of.tyBy) (Syntax.tcons (Syntax.tyInt Syntax.w64) Syntax.tnil))),
-)
-    (List._∷_ (13, Rows'.any-gone (Syntax.tyRef Syntax.erased Syntax.mut (Syntax.tyArray (Syntax.tyArray (Syntax.tyInt Syntax.w32) 3) 256))) (List._∷_ (
-      14,
-      Rows'.any-gone
-          (Syntax.tyStruct (List._∷_ 38 (List._∷_ 91 (List._∷_ 93 List.[]))) (Syntax.tcons (Syntax.tyRef Syntax.erased Syntax.mut (Syntax.tyArray (Syntax.tyInt Syntax.w32) 3))
-          (Syntax.tcons (Syntax.tyInt Syntax.w64) Syntax.tnil))),
-    ) (List._∷_ (15, Rows'.any-gone (Syntax.tyArray (Syntax.tyInt Syntax.w32) 3)) List.[])))))))))))))))
+  Rows'.any-gone (Syntax.tyStruct (List._∷_ 38 (List._∷_ 91 (List._∷_ 93 List.[]))) (Syntax.tcons (Syntax.tyRef Syntax.erased Syntax.mut Of.tyBy)
+      (Syntax.tcons (Syntax.tyInt Syntax.w64) Syntax.tnil))),
+) (List._∷_ (
+  13,
+  Rows'.any-gone (Syntax.tyRef Syntax.erased Syntax.mut (Syntax.tyArray (Syntax.tyArray (Syntax.tyInt
+      Syntax.w32) 3) 256)),
+) (List._∷_ (
+  14,
+  Rows'.any-gone (Syntax.tyStruct (List._∷_ 38 (List._∷_ 91 (List._∷_ 93 List.[]))) (Syntax.tcons (Syntax.tyRef Syntax.erased Syntax.mut
+      (Syntax.tyArray (Syntax.tyInt Syntax.w32) 3)) (Syntax.tcons (Syntax.tyInt Syntax.w64) Syntax.tnil))),
+) (List._∷_ (
+  15,
+  Rows'.any-gone (Syntax.tyArray (Syntax.tyInt Syntax.w32)
+      3),
+) List.[])))))))))))))))
 
 abbrev pub t38 : List.List Row.Entry
 t38 = List._∷_ (16, Rows'.any-gone (Syntax.tyRef Syntax.erased Syntax.mut Of.tyBy)) (List._∷_ (17, Mut.mslice Of.R (Syntax.tyRef Syntax.erased Syntax.mut Of.tyBy) 3)
@@ -2108,179 +2111,163 @@ abbrev pub t42 : List.List Row.Entry
 t42 = List._∷_ (0, Rows'.whole (Declared.row Inserted.the-type)) (List._∷_ (
   1,
   Rows'.any-gone (Syntax.tyStruct (List._∷_ 103 (List._∷_ 114 (List._∷_ 101 (List._∷_ 101 (List._∷_
-      110 (List._∷_ 119 (List._∷_ 97 (List._∷_ 108 (List._∷_ 100 (List._∷_ 95 (List._∷_ 107 (List._∷_ 104 (List._∷_ 97 (List._∷_ 110 (List._∷_ 110 (List._∷_ 97 (List._∷_ 58 (List._∷_
-      58 (List._∷_ 83 (List._∷_ 116 (List._∷_ 114 (List._∷_ 101 (List._∷_ 97 (List._∷_ 109 List.[])))))))))))))))))))))))) (Syntax.tcons (Syntax.tyStruct (List._∷_ 102 (List._∷_ 114
-      (List._∷_ 97 (List._∷_ 99 (List._∷_ 116 (List._∷_ 105 (List._∷_ 111 (List._∷_ 110 (List._∷_ 58 (List._∷_ 58 (List._∷_ 70 (List._∷_ 114 (List._∷_ 97 (List._∷_ 99 (List._∷_ 116
-      (List._∷_ 105 (List._∷_ 111 (List._∷_ 110 List.[])))))))))))))))))) (Syntax.tcons (Syntax.tyInt Syntax.w32) (Syntax.tcons (Syntax.tyInt Syntax.w32) Syntax.tnil))) (Syntax.tcons
-      (Syntax.tyInt Syntax.w32) (Syntax.tcons (Syntax.tyInt Syntax.w32) Syntax.tnil)))),
-) (List._∷_ (
-  2,
-  Relend.mslice-owed Of.R (Syntax.tyRef (Syntax.named 0) Syntax.mut Of.tyBy) 0
-      3 Row.off,
-) (List._∷_ (3, Rows'.sc-here (Row.sInt Syntax.w32)) (List._∷_ (4, Rows'.sc-here (Row.sInt Syntax.w64)) (List._∷_ (5, Rows'.sc-here (Row.sInt Syntax.w64))
-    (List._∷_ (6, Rows'.any-gone (Syntax.tyArray (Syntax.tyArray (Syntax.tyInt Syntax.w32) 3) 256)) (List._∷_ (
-      7,
-      Rows.arr-owed (Array'.Array (Referent.rtF (Referent.fInt
-          Syntax.w32)) 3) 4096 4,
-    ) (List._∷_ (8, Rows'.any-gone Syntax.tyBool) (List._∷_ (
+      110 (List._∷_ 119 (List._∷_ 97 (List._∷_ 108 (List._∷_ 100 (List._∷_ 95 (List._∷_ 107 (List._∷_ 104 (List._∷_ 97 (List._∷_ 110 (List._∷_ 110 (List._∷_ 97 (List._∷_ 95 (List._∷_
+      115 (List._∷_ 116 (List._∷_ 101 (List._∷_ 112 (List._∷_ 115 (List._∷_ 58 (List._∷_ 58 (List._∷_ 83 (List._∷_ 116 (List._∷_ 114 (List._∷_ 101 (List._∷_ 97 (List._∷_ 109
+      List.[])))))))))))))))))))))))))))))) (Syntax.tcons (Syntax.tyStruct (List._∷_ 102 (List._∷_ 114 (List._∷_ 97 (List._∷_ 99 (List._∷_ 116 (List._∷_ 105 (List._∷_ 111 (List._∷_
+      110 (List._∷_ 58 (List._∷_ 58 (List._∷_ 70 (List._∷_ 114 (List._∷_ 97 (List._∷_ 99 (List._∷_ 116 (List._∷_ 105 (List._∷_ 111 (List._∷_ 110 List.[]))))))))))))))))))
+      (Syntax.tcons (Syntax.tyInt Syntax.w32) (Syntax.tcons (Syntax.tyInt Syntax.w32) Syntax.tnil))) (Syntax.tcons (Syntax.tyInt Syntax.w32) (Syntax.tcons (Syntax.tyInt Syntax.w32)
+      Syntax.tnil)))),
+) (List._∷_ (2, Relend.mslice-owed Of.R (Syntax.tyRef (Syntax.named 0) Syntax.mut Of.tyBy) 0 3 Row.off) (List._∷_ (3, Rows'.sc-here (Row.sInt Syntax.w32))
+    (List._∷_ (4, Rows'.sc-here (Row.sInt Syntax.w64)) (List._∷_ (5, Rows'.sc-here (Row.sInt Syntax.w64)) (List._∷_ (
+      6,
+      Rows'.any-gone (Syntax.tyArray (Syntax.tyArray
+          (Syntax.tyInt Syntax.w32) 3) 256),
+    ) (List._∷_ (7, Rows.arr-owed (Array'.Array (Referent.rtF (Referent.fInt Syntax.w32)) 3) 4096 4) (List._∷_ (8, Rows'.any-gone Syntax.tyBool)
+    (List._∷_ (
       9,
-      Rows'.any-gone (Syntax.tyEnum (List._∷_ 114 (List._∷_ 101 (List._∷_ 102 (List._∷_ 117
-          (List._∷_ 115 (List._∷_ 97 (List._∷_ 108 (List._∷_ 58 (List._∷_ 58 (List._∷_ 82 (List._∷_ 101 (List._∷_ 102 (List._∷_ 117 (List._∷_ 115 (List._∷_ 97 (List._∷_ 108
-          List.[])))))))))))))))) (Syntax.ttcons Syntax.tnil (Syntax.ttcons Syntax.tnil (Syntax.ttcons Syntax.tnil (Syntax.ttcons Syntax.tnil (Syntax.ttcons Syntax.tnil (Syntax.ttcons
-          Syntax.tnil (Syntax.ttcons Syntax.tnil (Syntax.ttcons Syntax.tnil (Syntax.ttcons Syntax.tnil (Syntax.ttcons Syntax.tnil (Syntax.ttcons Syntax.tnil (Syntax.ttcons Syntax.tnil
-          Syntax.ttnil))))))))))))),
-    ) (List._∷_ (10, Rows'.any-gone (Syntax.tyArray (Syntax.tyInt Syntax.w32) 3)) (List._∷_ (
-      11,
-      Rows'.any-gone (Syntax.tyRef Syntax.erased Syntax.mut
-          Of.tyBy),
+      Rows'.any-gone (Syntax.tyEnum (List._∷_ 114 (List._∷_ 101 (List._∷_ 102 (List._∷_ 117 (List._∷_ 115 (List._∷_ 97 (List._∷_ 108 (List._∷_ 58 (List._∷_ 58
+          (List._∷_ 82 (List._∷_ 101 (List._∷_ 102 (List._∷_ 117 (List._∷_ 115 (List._∷_ 97 (List._∷_ 108 List.[])))))))))))))))) (Syntax.ttcons Syntax.tnil (Syntax.ttcons Syntax.tnil
+          (Syntax.ttcons Syntax.tnil (Syntax.ttcons Syntax.tnil (Syntax.ttcons Syntax.tnil (Syntax.ttcons Syntax.tnil (Syntax.ttcons Syntax.tnil (Syntax.ttcons Syntax.tnil (Syntax.ttcons
+          Syntax.tnil (Syntax.ttcons Syntax.tnil (Syntax.ttcons Syntax.tnil (Syntax.ttcons Syntax.tnil Syntax.ttnil))))))))))))),
     ) (List._∷_ (
+      10,
+      Rows'.any-gone (Syntax.tyArray
+          (Syntax.tyInt Syntax.w32) 3),
+    ) (List._∷_ (11, Rows'.any-gone (Syntax.tyRef Syntax.erased Syntax.mut Of.tyBy)) (List._∷_ (
       12,
-      Rows'.any-gone (Syntax.tyStruct (List._∷_ 38 (List._∷_ 91 (List._∷_ 93 List.[]))) (Syntax.tcons (Syntax.tyRef Syntax.erased Syntax.mut Of.tyBy)
-          (Syntax.tcons (Syntax.tyInt Syntax.w64) Syntax.tnil))),
+      Rows'.any-gone (Syntax.tyStruct (List._∷_ 38
+          (List._∷_ 91 (List._∷_ 93 List.[]))) (Syntax.tcons (Syntax.tyRef Syntax.erased Syntax.mut Of.tyBy) (Syntax.tcons (Syntax.tyInt Syntax.w64) Syntax.tnil))),
     ) (List._∷_ (
       13,
-      Rows'.any-gone (Syntax.tyRef Syntax.erased Syntax.mut (Syntax.tyArray (Syntax.tyArray (Syntax.tyInt
-          Syntax.w32) 3) 256)),
+      Rows'.any-gone (Syntax.tyRef Syntax.erased Syntax.mut (Syntax.tyArray (Syntax.tyArray (Syntax.tyInt Syntax.w32) 3) 256)),
     ) (List._∷_ (
       14,
-      Rows'.any-gone (Syntax.tyStruct (List._∷_ 38 (List._∷_ 91 (List._∷_ 93 List.[]))) (Syntax.tcons (Syntax.tyRef Syntax.erased Syntax.mut
-          (Syntax.tyArray (Syntax.tyInt Syntax.w32) 3)) (Syntax.tcons (Syntax.tyInt Syntax.w64) Syntax.tnil))),
-    ) (List._∷_ (
-      15,
-      Rows'.any-gone (Syntax.tyArray (Syntax.tyInt Syntax.w32)
-          3),
-    ) List.[])))))))))))))))
+      Rows'.any-gone (Syntax.tyStruct
+          (List._∷_ 38 (List._∷_ 91 (List._∷_ 93 List.[]))) (Syntax.tcons (Syntax.tyRef Syntax.erased Syntax.mut (Syntax.tyArray (Syntax.tyInt Syntax.w32) 3)) (Syntax.tcons (Syntax.tyInt
+          Syntax.w64) Syntax.tnil))),
+    ) (List._∷_ (15, Rows'.any-gone (Syntax.tyArray (Syntax.tyInt Syntax.w32) 3)) List.[])))))))))))))))
 
 abbrev pub t43 : List.List Row.Entry
 t43 = List._∷_ (0, Rows'.whole (Declared.row Inserted.the-type)) (List._∷_ (
   1,
   Rows'.any-gone (Syntax.tyStruct (List._∷_ 103 (List._∷_ 114 (List._∷_ 101 (List._∷_ 101 (List._∷_
-      110 (List._∷_ 119 (List._∷_ 97 (List._∷_ 108 (List._∷_ 100 (List._∷_ 95 (List._∷_ 107 (List._∷_ 104 (List._∷_ 97 (List._∷_ 110 (List._∷_ 110 (List._∷_ 97 (List._∷_ 58 (List._∷_
-      58 (List._∷_ 83 (List._∷_ 116 (List._∷_ 114 (List._∷_ 101 (List._∷_ 97 (List._∷_ 109 List.[])))))))))))))))))))))))) (Syntax.tcons (Syntax.tyStruct (List._∷_ 102 (List._∷_ 114
-      (List._∷_ 97 (List._∷_ 99 (List._∷_ 116 (List._∷_ 105 (List._∷_ 111 (List._∷_ 110 (List._∷_ 58 (List._∷_ 58 (List._∷_ 70 (List._∷_ 114 (List._∷_ 97 (List._∷_ 99 (List._∷_ 116
-      (List._∷_ 105 (List._∷_ 111 (List._∷_ 110 List.[])))))))))))))))))) (Syntax.tcons (Syntax.tyInt Syntax.w32) (Syntax.tcons (Syntax.tyInt Syntax.w32) Syntax.tnil))) (Syntax.tcons
-      (Syntax.tyInt Syntax.w32) (Syntax.tcons (Syntax.tyInt Syntax.w32) Syntax.tnil)))),
-) (List._∷_ (
-  2,
-  Relend.mslice-owed Of.R (Syntax.tyRef (Syntax.named 0) Syntax.mut Of.tyBy) 0
-      3 Row.off,
-) (List._∷_ (3, Rows'.sc-here (Row.sInt Syntax.w32)) (List._∷_ (4, Rows'.any-gone (Syntax.tyInt Syntax.w64)) (List._∷_ (5, Rows'.sc-here (Row.sInt Syntax.w64))
-    (List._∷_ (6, Rows'.any-gone (Syntax.tyArray (Syntax.tyArray (Syntax.tyInt Syntax.w32) 3) 256)) (List._∷_ (
-      7,
-      Rows.arr-owed (Array'.Array (Referent.rtF (Referent.fInt
-          Syntax.w32)) 3) 4096 4,
-    ) (List._∷_ (8, Rows'.any-gone Syntax.tyBool) (List._∷_ (
+      110 (List._∷_ 119 (List._∷_ 97 (List._∷_ 108 (List._∷_ 100 (List._∷_ 95 (List._∷_ 107 (List._∷_ 104 (List._∷_ 97 (List._∷_ 110 (List._∷_ 110 (List._∷_ 97 (List._∷_ 95 (List._∷_
+      115 (List._∷_ 116 (List._∷_ 101 (List._∷_ 112 (List._∷_ 115 (List._∷_ 58 (List._∷_ 58 (List._∷_ 83 (List._∷_ 116 (List._∷_ 114 (List._∷_ 101 (List._∷_ 97 (List._∷_ 109
+      List.[])))))))))))))))))))))))))))))) (Syntax.tcons (Syntax.tyStruct (List._∷_ 102 (List._∷_ 114 (List._∷_ 97 (List._∷_ 99 (List._∷_ 116 (List._∷_ 105 (List._∷_ 111 (List._∷_
+      110 (List._∷_ 58 (List._∷_ 58 (List._∷_ 70 (List._∷_ 114 (List._∷_ 97 (List._∷_ 99 (List._∷_ 116 (List._∷_ 105 (List._∷_ 111 (List._∷_ 110 List.[]))))))))))))))))))
+      (Syntax.tcons (Syntax.tyInt Syntax.w32) (Syntax.tcons (Syntax.tyInt Syntax.w32) Syntax.tnil))) (Syntax.tcons (Syntax.tyInt Syntax.w32) (Syntax.tcons (Syntax.tyInt Syntax.w32)
+      Syntax.tnil)))),
+) (List._∷_ (2, Relend.mslice-owed Of.R (Syntax.tyRef (Syntax.named 0) Syntax.mut Of.tyBy) 0 3 Row.off) (List._∷_ (3, Rows'.sc-here (Row.sInt Syntax.w32))
+    (List._∷_ (4, Rows'.any-gone (Syntax.tyInt Syntax.w64)) (List._∷_ (5, Rows'.sc-here (Row.sInt Syntax.w64)) (List._∷_ (
+      6,
+      Rows'.any-gone (Syntax.tyArray (Syntax.tyArray
+          (Syntax.tyInt Syntax.w32) 3) 256),
+    ) (List._∷_ (7, Rows.arr-owed (Array'.Array (Referent.rtF (Referent.fInt Syntax.w32)) 3) 4096 4) (List._∷_ (8, Rows'.any-gone Syntax.tyBool)
+    (List._∷_ (
       9,
-      Rows'.any-gone (Syntax.tyEnum (List._∷_ 114 (List._∷_ 101 (List._∷_ 102 (List._∷_ 117
-          (List._∷_ 115 (List._∷_ 97 (List._∷_ 108 (List._∷_ 58 (List._∷_ 58 (List._∷_ 82 (List._∷_ 101 (List._∷_ 102 (List._∷_ 117 (List._∷_ 115 (List._∷_ 97 (List._∷_ 108
-          List.[])))))))))))))))) (Syntax.ttcons Syntax.tnil (Syntax.ttcons Syntax.tnil (Syntax.ttcons Syntax.tnil (Syntax.ttcons Syntax.tnil (Syntax.ttcons Syntax.tnil (Syntax.ttcons
-          Syntax.tnil (Syntax.ttcons Syntax.tnil (Syntax.ttcons Syntax.tnil (Syntax.ttcons Syntax.tnil (Syntax.ttcons Syntax.tnil (Syntax.ttcons Syntax.tnil (Syntax.ttcons Syntax.tnil
-          Syntax.ttnil))))))))))))),
-    ) (List._∷_ (10, Rows'.any-gone (Syntax.tyArray (Syntax.tyInt Syntax.w32) 3)) (List._∷_ (
-      11,
-      Rows'.any-gone (Syntax.tyRef Syntax.erased Syntax.mut
-          Of.tyBy),
+      Rows'.any-gone (Syntax.tyEnum (List._∷_ 114 (List._∷_ 101 (List._∷_ 102 (List._∷_ 117 (List._∷_ 115 (List._∷_ 97 (List._∷_ 108 (List._∷_ 58 (List._∷_ 58
+          (List._∷_ 82 (List._∷_ 101 (List._∷_ 102 (List._∷_ 117 (List._∷_ 115 (List._∷_ 97 (List._∷_ 108 List.[])))))))))))))))) (Syntax.ttcons Syntax.tnil (Syntax.ttcons Syntax.tnil
+          (Syntax.ttcons Syntax.tnil (Syntax.ttcons Syntax.tnil (Syntax.ttcons Syntax.tnil (Syntax.ttcons Syntax.tnil (Syntax.ttcons Syntax.tnil (Syntax.ttcons Syntax.tnil (Syntax.ttcons
+          Syntax.tnil (Syntax.ttcons Syntax.tnil (Syntax.ttcons Syntax.tnil (Syntax.ttcons Syntax.tnil Syntax.ttnil))))))))))))),
     ) (List._∷_ (
+      10,
+      Rows'.any-gone (Syntax.tyArray
+          (Syntax.tyInt Syntax.w32) 3),
+    ) (List._∷_ (11, Rows'.any-gone (Syntax.tyRef Syntax.erased Syntax.mut Of.tyBy)) (List._∷_ (
       12,
-      Rows'.any-gone (Syntax.tyStruct (List._∷_ 38 (List._∷_ 91 (List._∷_ 93 List.[]))) (Syntax.tcons (Syntax.tyRef Syntax.erased Syntax.mut Of.tyBy)
-          (Syntax.tcons (Syntax.tyInt Syntax.w64) Syntax.tnil))),
+      Rows'.any-gone (Syntax.tyStruct (List._∷_ 38
+          (List._∷_ 91 (List._∷_ 93 List.[]))) (Syntax.tcons (Syntax.tyRef Syntax.erased Syntax.mut Of.tyBy) (Syntax.tcons (Syntax.tyInt Syntax.w64) Syntax.tnil))),
     ) (List._∷_ (
       13,
-      Rows'.any-gone (Syntax.tyRef Syntax.erased Syntax.mut (Syntax.tyArray (Syntax.tyArray (Syntax.tyInt
-          Syntax.w32) 3) 256)),
+      Rows'.any-gone (Syntax.tyRef Syntax.erased Syntax.mut (Syntax.tyArray (Syntax.tyArray (Syntax.tyInt Syntax.w32) 3) 256)),
     ) (List._∷_ (
       14,
-      Rows'.any-gone (Syntax.tyStruct (List._∷_ 38 (List._∷_ 91 (List._∷_ 93 List.[]))) (Syntax.tcons (Syntax.tyRef Syntax.erased Syntax.mut
-          (Syntax.tyArray (Syntax.tyInt Syntax.w32) 3)) (Syntax.tcons (Syntax.tyInt Syntax.w64) Syntax.tnil))),
-    ) (List._∷_ (
-      15,
-      Rows'.any-gone (Syntax.tyArray (Syntax.tyInt Syntax.w32)
-          3),
-    ) List.[])))))))))))))))
+      Rows'.any-gone (Syntax.tyStruct
+          (List._∷_ 38 (List._∷_ 91 (List._∷_ 93 List.[]))) (Syntax.tcons (Syntax.tyRef Syntax.erased Syntax.mut (Syntax.tyArray (Syntax.tyInt Syntax.w32) 3)) (Syntax.tcons (Syntax.tyInt
+          Syntax.w64) Syntax.tnil))),
+    ) (List._∷_ (15, Rows'.any-gone (Syntax.tyArray (Syntax.tyInt Syntax.w32) 3)) List.[])))))))))))))))
 
 abbrev pub t44 : List.List Row.Entry
 t44 = List._∷_ (0, Rows'.whole (Declared.row Inserted.the-type)) (List._∷_ (
   1,
   Rows'.any-gone (Syntax.tyStruct (List._∷_ 103 (List._∷_ 114 (List._∷_ 101 (List._∷_ 101 (List._∷_
-      110 (List._∷_ 119 (List._∷_ 97 (List._∷_ 108 (List._∷_ 100 (List._∷_ 95 (List._∷_ 107 (List._∷_ 104 (List._∷_ 97 (List._∷_ 110 (List._∷_ 110 (List._∷_ 97 (List._∷_ 58 (List._∷_
-      58 (List._∷_ 83 (List._∷_ 116 (List._∷_ 114 (List._∷_ 101 (List._∷_ 97 (List._∷_ 109 List.[])))))))))))))))))))))))) (Syntax.tcons (Syntax.tyStruct (List._∷_ 102 (List._∷_ 114
-      (List._∷_ 97 (List._∷_ 99 (List._∷_ 116 (List._∷_ 105 (List._∷_ 111 (List._∷_ 110 (List._∷_ 58 (List._∷_ 58 (List._∷_ 70 (List._∷_ 114 (List._∷_ 97 (List._∷_ 99 (List._∷_ 116
-      (List._∷_ 105 (List._∷_ 111 (List._∷_ 110 List.[])))))))))))))))))) (Syntax.tcons (Syntax.tyInt Syntax.w32) (Syntax.tcons (Syntax.tyInt Syntax.w32) Syntax.tnil))) (Syntax.tcons
-      (Syntax.tyInt Syntax.w32) (Syntax.tcons (Syntax.tyInt Syntax.w32) Syntax.tnil)))),
-) (List._∷_ (
-  2,
-  Relend.mslice-owed Of.R (Syntax.tyRef (Syntax.named 0) Syntax.mut Of.tyBy) 0
-      3 Row.off,
-) (List._∷_ (3, Rows'.sc-here (Row.sInt Syntax.w32)) (List._∷_ (4, Rows'.any-gone (Syntax.tyInt Syntax.w64)) (List._∷_ (
-  5,
-  Rows'.any-gone (Syntax.tyInt
-      Syntax.w64),
-) (List._∷_ (6, Rows'.any-gone (Syntax.tyArray (Syntax.tyArray (Syntax.tyInt Syntax.w32) 3) 256)) (List._∷_ (
-  7,
-  Rows.arr-owed (Array'.Array (Referent.rtF
-      (Referent.fInt Syntax.w32)) 3) 4096 4,
-) (List._∷_ (8, Rows'.any-gone Syntax.tyBool) (List._∷_ (
-  9,
-  Rows'.any-gone (Syntax.tyEnum (List._∷_ 114 (List._∷_ 101 (List._∷_ 102
-      (List._∷_ 117 (List._∷_ 115 (List._∷_ 97 (List._∷_ 108 (List._∷_ 58 (List._∷_ 58 (List._∷_ 82 (List._∷_ 101 (List._∷_ 102 (List._∷_ 117 (List._∷_ 115 (List._∷_ 97 (List._∷_ 108
-      List.[])))))))))))))))) (Syntax.ttcons Syntax.tnil (Syntax.ttcons Syntax.tnil (Syntax.ttcons Syntax.tnil (Syntax.ttcons Syntax.tnil (Syntax.ttcons Syntax.tnil (Syntax.ttcons
-      Syntax.tnil (Syntax.ttcons Syntax.tnil (Syntax.ttcons Syntax.tnil (Syntax.ttcons Syntax.tnil (Syntax.ttcons Syntax.tnil (Syntax.ttcons Syntax.tnil (Syntax.ttcons Syntax.tnil
-      Syntax.ttnil))))))))))))),
-) (List._∷_ (10, Rows'.any-gone (Syntax.tyArray (Syntax.tyInt Syntax.w32) 3)) (List._∷_ (
-  11,
-  Rows'.any-gone (Syntax.tyRef Syntax.erased Syntax.mut
-      Of.tyBy),
-) (List._∷_ (
-  12,
-  Rows'.any-gone (Syntax.tyStruct (List._∷_ 38 (List._∷_ 91 (List._∷_ 93 List.[]))) (Syntax.tcons (Syntax.tyRef Syntax.erased Syntax.mut Of.tyBy)
-      (Syntax.tcons (Syntax.tyInt Syntax.w64) Syntax.tnil))),
-) (List._∷_ (
-  13,
-  Rows'.any-gone (Syntax.tyRef Syntax.erased Syntax.mut (Syntax.tyArray (Syntax.tyArray (Syntax.tyInt
-      Syntax.w32) 3) 256)),
-) (List._∷_ (
-  14,
-  Rows'.any-gone (Syntax.tyStruct (List._∷_ 38 (List._∷_ 91 (List._∷_ 93 List.[]))) (Syntax.tcons (Syntax.tyRef Syntax.erased Syntax.mut
-      (Syntax.tyArray (Syntax.tyInt Syntax.w32) 3)) (Syntax.tcons (Syntax.tyInt Syntax.w64) Syntax.tnil))),
-) (List._∷_ (
-  15,
-  Rows'.any-gone (Syntax.tyArray (Syntax.tyInt Syntax.w32)
-      3),
-) List.[])))))))))))))))
+      110 (List._∷_ 119 (List._∷_ 97 (List._∷_ 108 (List._∷_ 100 (List._∷_ 95 (List._∷_ 107 (List._∷_ 104 (List._∷_ 97 (List._∷_ 110 (List._∷_ 110 (List._∷_ 97 (List._∷_ 95 (List._∷_
+      115 (List._∷_ 116 (List._∷_ 101 (List._∷_ 112 (List._∷_ 115 (List._∷_ 58 (List._∷_ 58 (List._∷_ 83 (List._∷_ 116 (List._∷_ 114 (List._∷_ 101 (List._∷_ 97 (List._∷_ 109
+      List.[])))))))))))))))))))))))))))))) (Syntax.tcons (Syntax.tyStruct (List._∷_ 102 (List._∷_ 114 (List._∷_ 97 (List._∷_ 99 (List._∷_ 116 (List._∷_ 105 (List._∷_ 111 (List._∷_
+      110 (List._∷_ 58 (List._∷_ 58 (List._∷_ 70 (List._∷_ 114 (List._∷_ 97 (List._∷_ 99 (List._∷_ 116 (List._∷_ 105 (List._∷_ 111 (List._∷_ 110 List.[]))))))))))))))))))
+      (Syntax.tcons (Syntax.tyInt Syntax.w32) (Syntax.tcons (Syntax.tyInt Syntax.w32) Syntax.tnil))) (Syntax.tcons (Syntax.tyInt Syntax.w32) (Syntax.tcons (Syntax.tyInt Syntax.w32)
+      Syntax.tnil)))),
+) (List._∷_ (2, Relend.mslice-owed Of.R (Syntax.tyRef (Syntax.named 0) Syntax.mut Of.tyBy) 0 3 Row.off) (List._∷_ (3, Rows'.sc-here (Row.sInt Syntax.w32))
+    (List._∷_ (4, Rows'.any-gone (Syntax.tyInt Syntax.w64)) (List._∷_ (5, Rows'.any-gone (Syntax.tyInt Syntax.w64)) (List._∷_ (
+      6,
+      Rows'.any-gone (Syntax.tyArray (Syntax.tyArray
+          (Syntax.tyInt Syntax.w32) 3) 256),
+    ) (List._∷_ (7, Rows.arr-owed (Array'.Array (Referent.rtF (Referent.fInt Syntax.w32)) 3) 4096 4) (List._∷_ (8, Rows'.any-gone Syntax.tyBool)
+    (List._∷_ (
+      9,
+      Rows'.any-gone (Syntax.tyEnum (List._∷_ 114 (List._∷_ 101 (List._∷_ 102 (List._∷_ 117 (List._∷_ 115 (List._∷_ 97 (List._∷_ 108 (List._∷_ 58 (List._∷_ 58
+          (List._∷_ 82 (List._∷_ 101 (List._∷_ 102 (List._∷_ 117 (List._∷_ 115 (List._∷_ 97 (List._∷_ 108 List.[])))))))))))))))) (Syntax.ttcons Syntax.tnil (Syntax.ttcons Syntax.tnil
+          (Syntax.ttcons Syntax.tnil (Syntax.ttcons Syntax.tnil (Syntax.ttcons Syntax.tnil (Syntax.ttcons Syntax.tnil (Syntax.ttcons Syntax.tnil (Syntax.ttcons Syntax.tnil (Syntax.ttcons
+          Syntax.tnil (Syntax.ttcons Syntax.tnil (Syntax.ttcons Syntax.tnil (Syntax.ttcons Syntax.tnil Syntax.ttnil))))))))))))),
+    ) (List._∷_ (
+      10,
+      Rows'.any-gone (Syntax.tyArray
+          (Syntax.tyInt Syntax.w32) 3),
+    ) (List._∷_ (11, Rows'.any-gone (Syntax.tyRef Syntax.erased Syntax.mut Of.tyBy)) (List._∷_ (
+      12,
+      Rows'.any-gone (Syntax.tyStruct (List._∷_ 38
+          (List._∷_ 91 (List._∷_ 93 List.[]))) (Syntax.tcons (Syntax.tyRef Syntax.erased Syntax.mut Of.tyBy) (Syntax.tcons (Syntax.tyInt Syntax.w64) Syntax.tnil))),
+    ) (List._∷_ (
+      13,
+      Rows'.any-gone (Syntax.tyRef Syntax.erased Syntax.mut (Syntax.tyArray (Syntax.tyArray (Syntax.tyInt Syntax.w32) 3) 256)),
+    ) (List._∷_ (
+      14,
+      Rows'.any-gone (Syntax.tyStruct
+          (List._∷_ 38 (List._∷_ 91 (List._∷_ 93 List.[]))) (Syntax.tcons (Syntax.tyRef Syntax.erased Syntax.mut (Syntax.tyArray (Syntax.tyInt Syntax.w32) 3)) (Syntax.tcons (Syntax.tyInt
+          Syntax.w64) Syntax.tnil))),
+    ) (List._∷_ (15, Rows'.any-gone (Syntax.tyArray (Syntax.tyInt Syntax.w32) 3)) List.[])))))))))))))))
 
 abbrev pub t45 : List.List Row.Entry
 t45 = List._∷_ (0, Rows'.whole (Declared.row Inserted.the-type)) (List._∷_ (
   1,
   Rows'.any-gone (Syntax.tyStruct (List._∷_ 103 (List._∷_ 114 (List._∷_ 101 (List._∷_ 101 (List._∷_
-      110 (List._∷_ 119 (List._∷_ 97 (List._∷_ 108 (List._∷_ 100 (List._∷_ 95 (List._∷_ 107 (List._∷_ 104 (List._∷_ 97 (List._∷_ 110 (List._∷_ 110 (List._∷_ 97 (List._∷_ 58 (List._∷_
-      58 (List._∷_ 83 (List._∷_ 116 (List._∷_ 114 (List._∷_ 101 (List._∷_ 97 (List._∷_ 109 List.[])))))))))))))))))))))))) (Syntax.tcons (Syntax.tyStruct (List._∷_ 102 (List._∷_ 114
-      (List._∷_ 97 (List._∷_ 99 (List._∷_ 116 (List._∷_ 105 (List._∷_ 111 (List._∷_ 110 (List._∷_ 58 (List._∷_ 58 (List._∷_ 70 (List._∷_ 114 (List._∷_ 97 (List._∷_ 99 (List._∷_ 116
-      (List._∷_ 105 (List._∷_ 111 (List._∷_ 110 List.[])))))))))))))))))) (Syntax.tcons (Syntax.tyInt Syntax.w32) (Syntax.tcons (Syntax.tyInt Syntax.w32) Syntax.tnil))) (Syntax.tcons
-      (Syntax.tyInt Syntax.w32) (Syntax.tcons (Syntax.tyInt Syntax.w32) Syntax.tnil)))),
-) (List._∷_ (2, Mut.mslice Of.R (Syntax.tyRef (Syntax.named 0) Syntax.mut Of.tyBy) 0)
-    (List._∷_ (3, Rows'.sc-here (Row.sInt Syntax.w32)) (List._∷_ (4, Rows'.any-gone (Syntax.tyInt Syntax.w64)) (List._∷_ (5, Rows'.any-gone (Syntax.tyInt Syntax.w64)) (List._∷_
-    (6, Rows'.any-gone (Syntax.tyArray (Syntax.tyArray (Syntax.tyInt Syntax.w32) 3) 256)) (List._∷_ (
-      7,
-      Rows.arr-owed (Array'.Array (Referent.rtF (Referent.fInt Syntax.w32)) 3)
-          4096 4,
-    ) (List._∷_ (8, Rows'.any-gone Syntax.tyBool) (List._∷_ (
-      9,
-      Rows'.any-gone (Syntax.tyEnum (List._∷_ 114 (List._∷_ 101 (List._∷_ 102 (List._∷_ 117 (List._∷_ 115 (List._∷_
-          97 (List._∷_ 108 (List._∷_ 58 (List._∷_ 58 (List._∷_ 82 (List._∷_ 101 (List._∷_ 102 (List._∷_ 117 (List._∷_ 115 (List._∷_ 97 (List._∷_ 108 List.[]))))))))))))))))
-          (Syntax.ttcons Syntax.tnil (Syntax.ttcons Syntax.tnil (Syntax.ttcons Syntax.tnil (Syntax.ttcons Syntax.tnil (Syntax.ttcons Syntax.tnil (Syntax.ttcons Syntax.tnil (Syntax.ttcons
-          Syntax.tnil (Syntax.ttcons Syntax.tnil (Syntax.ttcons Syntax.tnil (Syntax.ttcons Syntax.tnil (Syntax.ttcons Syntax.tnil (Syntax.ttcons Syntax.tnil Syntax.ttnil))))))))))))),
-    )
-    (List._∷_ (10, Rows'.any-gone (Syntax.tyArray (Syntax.tyInt Syntax.w32) 3)) (List._∷_ (11, Rows'.any-gone (Syntax.tyRef Syntax.erased Syntax.mut Of.tyBy)) (List._∷_ (
-      12,
-      Rows'.any-gone (Syntax.tyStruct (List._∷_ 38 (List._∷_ 91 (List._∷_ 93 List.[]))) (Syntax.tcons (Syntax.tyRef Syntax.erased Syntax.mut Of.tyBy) (Syntax.tcons (Syntax.tyInt
-          Syntax.w64) Syntax.tnil))),
-    ) (List._∷_ (13, Rows'.any-gone (Syntax.tyRef Syntax.erased Syntax.mut (Syntax.tyArray (Syntax.tyArray (Syntax.tyInt Syntax.w32) 3) 256)))
-    (List._∷_ (
-      14,
-      Rows'.any-gone (Syntax.tyStruct (List._∷_ 38 (List._∷_ 91 (List._∷_ 93 List.[]))) (Syntax.tcons (Syntax.tyRef Syntax.erased Syntax.mut (Syntax.tyArray
-          (Syntax.tyInt Syntax.w32) 3)) (Syntax.tcons (Syntax.tyInt Syntax.w64) Syntax.tnil))),
-    ) (List._∷_ (15, Rows'.any-gone (Syntax.tyArray (Syntax.tyInt Syntax.w32) 3))
-    List.[])))))))))))))))
+      110 (List._∷_ 119 (List._∷_ 97 (List._∷_ 108 (List._∷_ 100 (List._∷_ 95 (List._∷_ 107 (List._∷_ 104 (List._∷_ 97 (List._∷_ 110 (List._∷_ 110 (List._∷_ 97 (List._∷_ 95 (List._∷_
+      115 (List._∷_ 116 (List._∷_ 101 (List._∷_ 112 (List._∷_ 115 (List._∷_ 58 (List._∷_ 58 (List._∷_ 83 (List._∷_ 116 (List._∷_ 114 (List._∷_ 101 (List._∷_ 97 (List._∷_ 109
+      List.[])))))))))))))))))))))))))))))) (Syntax.tcons (Syntax.tyStruct (List._∷_ 102 (List._∷_ 114 (List._∷_ 97 (List._∷_ 99 (List._∷_ 116 (List._∷_ 105 (List._∷_ 111 (List._∷_
+      110 (List._∷_ 58 (List._∷_ 58 (List._∷_ 70 (List._∷_ 114 (List._∷_ 97 (List._∷_ 99 (List._∷_ 116 (List._∷_ 105 (List._∷_ 111 (List._∷_ 110 List.[]))))))))))))))))))
+      (Syntax.tcons (Syntax.tyInt Syntax.w32) (Syntax.tcons (Syntax.tyInt Syntax.w32) Syntax.tnil))) (Syntax.tcons (Syntax.tyInt Syntax.w32) (Syntax.tcons (Syntax.tyInt Syntax.w32)
+      Syntax.tnil)))),
+) (List._∷_ (2, Mut.mslice Of.R (Syntax.tyRef (Syntax.named 0) Syntax.mut Of.tyBy) 0) (List._∷_ (3, Rows'.sc-here (Row.sInt Syntax.w32)) (List._∷_ (
+  4,
+  Rows'.any-gone (Syntax.tyInt Syntax.w64),
+) (List._∷_ (5, Rows'.any-gone (Syntax.tyInt Syntax.w64)) (List._∷_ (
+  6,
+  Rows'.any-gone (Syntax.tyArray (Syntax.tyArray (Syntax.tyInt
+      Syntax.w32) 3) 256),
+) (List._∷_ (7, Rows.arr-owed (Array'.Array (Referent.rtF (Referent.fInt Syntax.w32)) 3) 4096 4) (List._∷_ (8, Rows'.any-gone Syntax.tyBool) (List._∷_ (
+  9,
+  Rows'.any-gone (Syntax.tyEnum (List._∷_ 114 (List._∷_ 101 (List._∷_ 102 (List._∷_ 117 (List._∷_ 115 (List._∷_ 97 (List._∷_ 108 (List._∷_ 58 (List._∷_ 58 (List._∷_ 82 (List._∷_
+      101 (List._∷_ 102 (List._∷_ 117 (List._∷_ 115 (List._∷_ 97 (List._∷_ 108 List.[])))))))))))))))) (Syntax.ttcons Syntax.tnil (Syntax.ttcons Syntax.tnil (Syntax.ttcons
+      Syntax.tnil (Syntax.ttcons Syntax.tnil (Syntax.ttcons Syntax.tnil (Syntax.ttcons Syntax.tnil (Syntax.ttcons Syntax.tnil (Syntax.ttcons Syntax.tnil (Syntax.ttcons Syntax.tnil
+      (Syntax.ttcons Syntax.tnil (Syntax.ttcons Syntax.tnil (Syntax.ttcons Syntax.tnil Syntax.ttnil))))))))))))),
+) (List._∷_ (
+  10,
+  Rows'.any-gone (Syntax.tyArray (Syntax.tyInt
+      Syntax.w32) 3),
+) (List._∷_ (11, Rows'.any-gone (Syntax.tyRef Syntax.erased Syntax.mut Of.tyBy)) (List._∷_ (
+  12,
+  Rows'.any-gone (Syntax.tyStruct (List._∷_ 38 (List._∷_ 91
+      (List._∷_ 93 List.[]))) (Syntax.tcons (Syntax.tyRef Syntax.erased Syntax.mut Of.tyBy) (Syntax.tcons (Syntax.tyInt Syntax.w64) Syntax.tnil))),
+) (List._∷_ (
+  13,
+  Rows'.any-gone
+      (Syntax.tyRef Syntax.erased Syntax.mut (Syntax.tyArray (Syntax.tyArray (Syntax.tyInt Syntax.w32) 3) 256)),
+) (List._∷_ (
+  14,
+  Rows'.any-gone (Syntax.tyStruct (List._∷_ 38
+      (List._∷_ 91 (List._∷_ 93 List.[]))) (Syntax.tcons (Syntax.tyRef Syntax.erased Syntax.mut (Syntax.tyArray (Syntax.tyInt Syntax.w32) 3)) (Syntax.tcons (Syntax.tyInt Syntax.w64)
+      Syntax.tnil))),
+) (List._∷_ (15, Rows'.any-gone (Syntax.tyArray (Syntax.tyInt Syntax.w32) 3)) List.[])))))))))))))))
 
 abbrev pub t46 : List.List Row.Entry
 t46 = List._∷_ (16, Rows'.any-gone (Syntax.tyRef Syntax.erased Syntax.mut Of.tyBy)) (List._∷_ (
@@ -2301,69 +2288,85 @@ abbrev pub t47 : List.List Row.Entry
 t47 = List._∷_ (0, Rows'.whole (Declared.row Inserted.the-type)) (List._∷_ (
   1,
   Rows'.any-gone (Syntax.tyStruct (List._∷_ 103 (List._∷_ 114 (List._∷_ 101 (List._∷_ 101 (List._∷_
-      110 (List._∷_ 119 (List._∷_ 97 (List._∷_ 108 (List._∷_ 100 (List._∷_ 95 (List._∷_ 107 (List._∷_ 104 (List._∷_ 97 (List._∷_ 110 (List._∷_ 110 (List._∷_ 97 (List._∷_ 58 (List._∷_
-      58 (List._∷_ 83 (List._∷_ 116 (List._∷_ 114 (List._∷_ 101 (List._∷_ 97 (List._∷_ 109 List.[])))))))))))))))))))))))) (Syntax.tcons (Syntax.tyStruct (List._∷_ 102 (List._∷_ 114
-      (List._∷_ 97 (List._∷_ 99 (List._∷_ 116 (List._∷_ 105 (List._∷_ 111 (List._∷_ 110 (List._∷_ 58 (List._∷_ 58 (List._∷_ 70 (List._∷_ 114 (List._∷_ 97 (List._∷_ 99 (List._∷_ 116
-      (List._∷_ 105 (List._∷_ 111 (List._∷_ 110 List.[])))))))))))))))))) (Syntax.tcons (Syntax.tyInt Syntax.w32) (Syntax.tcons (Syntax.tyInt Syntax.w32) Syntax.tnil))) (Syntax.tcons
-      (Syntax.tyInt Syntax.w32) (Syntax.tcons (Syntax.tyInt Syntax.w32) Syntax.tnil)))),
-) (List._∷_ (2, Mut.mslice Of.R (Syntax.tyRef (Syntax.named 0) Syntax.mut Of.tyBy) 0)
-    (List._∷_ (3, Rows'.sc-here (Row.sInt Syntax.w32)) (List._∷_ (4, Rows'.any-gone (Syntax.tyInt Syntax.w64)) (List._∷_ (5, Rows'.any-gone (Syntax.tyInt Syntax.w64)) (List._∷_
-    (6, Rows'.any-gone (Syntax.tyArray (Syntax.tyArray (Syntax.tyInt Syntax.w32) 3) 256)) (List._∷_ (
-      7,
-      Rows.arrF (Array'.Array (Referent.rtF (Referent.fInt Syntax.w32)) 3) 4096
-          0,
-    ) (List._∷_ (8, Rows'.any-gone Syntax.tyBool) (List._∷_ (
-      9,
-      Rows'.any-gone (Syntax.tyEnum (List._∷_ 114 (List._∷_ 101 (List._∷_ 102 (List._∷_ 117 (List._∷_ 115 (List._∷_ 97
-          (List._∷_ 108 (List._∷_ 58 (List._∷_ 58 (List._∷_ 82 (List._∷_ 101 (List._∷_ 102 (List._∷_ 117 (List._∷_ 115 (List._∷_ 97 (List._∷_ 108 List.[])))))))))))))))) (Syntax.ttcons
-          Syntax.tnil (Syntax.ttcons Syntax.tnil (Syntax.ttcons Syntax.tnil (Syntax.ttcons Syntax.tnil (Syntax.ttcons Syntax.tnil (Syntax.ttcons Syntax.tnil (Syntax.ttcons Syntax.tnil
-          (Syntax.ttcons Syntax.tnil (Syntax.ttcons Syntax.tnil (Syntax.ttcons Syntax.tnil (Syntax.ttcons Syntax.tnil (Syntax.ttcons Syntax.tnil Syntax.ttnil))))))))))))),
-    ) (List._∷_
-    (10, Rows'.any-gone (Syntax.tyArray (Syntax.tyInt Syntax.w32) 3)) (List._∷_ (11, Rows'.any-gone (Syntax.tyRef Syntax.erased Syntax.mut Of.tyBy)) (List._∷_ (
-      12,
-      Rows'.any-gone (Syntax.tyStruct (List._∷_ 38 (List._∷_ 91 (List._∷_ 93 List.[]))) (Syntax.tcons (Syntax.tyRef Syntax.erased Syntax.mut Of.tyBy) (Syntax.tcons (Syntax.tyInt
-          Syntax.w64) Syntax.tnil))),
-    ) (List._∷_ (13, Rows'.any-gone (Syntax.tyRef Syntax.erased Syntax.mut (Syntax.tyArray (Syntax.tyArray (Syntax.tyInt Syntax.w32) 3) 256)))
-    (List._∷_ (
-      14,
-      Rows'.any-gone (Syntax.tyStruct (List._∷_ 38 (List._∷_ 91 (List._∷_ 93 List.[]))) (Syntax.tcons (Syntax.tyRef Syntax.erased Syntax.mut (Syntax.tyArray
-          (Syntax.tyInt Syntax.w32) 3)) (Syntax.tcons (Syntax.tyInt Syntax.w64) Syntax.tnil))),
-    ) (List._∷_ (15, Rows'.any-gone (Syntax.tyArray (Syntax.tyInt Syntax.w32) 3))
-    List.[])))))))))))))))
+      110 (List._∷_ 119 (List._∷_ 97 (List._∷_ 108 (List._∷_ 100 (List._∷_ 95 (List._∷_ 107 (List._∷_ 104 (List._∷_ 97 (List._∷_ 110 (List._∷_ 110 (List._∷_ 97 (List._∷_ 95 (List._∷_
+      115 (List._∷_ 116 (List._∷_ 101 (List._∷_ 112 (List._∷_ 115 (List._∷_ 58 (List._∷_ 58 (List._∷_ 83 (List._∷_ 116 (List._∷_ 114 (List._∷_ 101 (List._∷_ 97 (List._∷_ 109
+      List.[])))))))))))))))))))))))))))))) (Syntax.tcons (Syntax.tyStruct (List._∷_ 102 (List._∷_ 114 (List._∷_ 97 (List._∷_ 99 (List._∷_ 116 (List._∷_ 105 (List._∷_ 111 (List._∷_
+      110 (List._∷_ 58 (List._∷_ 58 (List._∷_ 70 (List._∷_ 114 (List._∷_ 97 (List._∷_ 99 (List._∷_ 116 (List._∷_ 105 (List._∷_ 111 (List._∷_ 110 List.[]))))))))))))))))))
+      (Syntax.tcons (Syntax.tyInt Syntax.w32) (Syntax.tcons (Syntax.tyInt Syntax.w32) Syntax.tnil))) (Syntax.tcons (Syntax.tyInt Syntax.w32) (Syntax.tcons (Syntax.tyInt Syntax.w32)
+      Syntax.tnil)))),
+) (List._∷_ (2, Mut.mslice Of.R (Syntax.tyRef (Syntax.named 0) Syntax.mut Of.tyBy) 0) (List._∷_ (3, Rows'.sc-here (Row.sInt Syntax.w32)) (List._∷_ (
+  4,
+  Rows'.any-gone (Syntax.tyInt Syntax.w64),
+) (List._∷_ (5, Rows'.any-gone (Syntax.tyInt Syntax.w64)) (List._∷_ (
+  6,
+  Rows'.any-gone (Syntax.tyArray (Syntax.tyArray (Syntax.tyInt
+      Syntax.w32) 3) 256),
+) (List._∷_ (7, Rows.arrF (Array'.Array (Referent.rtF (Referent.fInt Syntax.w32)) 3) 4096 0) (List._∷_ (8, Rows'.any-gone Syntax.tyBool) (List._∷_ (
+  9,
+  Rows'.any-gone (Syntax.tyEnum (List._∷_ 114 (List._∷_ 101 (List._∷_ 102 (List._∷_ 117 (List._∷_ 115 (List._∷_ 97 (List._∷_ 108 (List._∷_ 58 (List._∷_ 58 (List._∷_ 82 (List._∷_
+      101 (List._∷_ 102 (List._∷_ 117 (List._∷_ 115 (List._∷_ 97 (List._∷_ 108 List.[])))))))))))))))) (Syntax.ttcons Syntax.tnil (Syntax.ttcons Syntax.tnil (Syntax.ttcons
+      Syntax.tnil (Syntax.ttcons Syntax.tnil (Syntax.ttcons Syntax.tnil (Syntax.ttcons Syntax.tnil (Syntax.ttcons Syntax.tnil (Syntax.ttcons Syntax.tnil (Syntax.ttcons Syntax.tnil
+      (Syntax.ttcons Syntax.tnil (Syntax.ttcons Syntax.tnil (Syntax.ttcons Syntax.tnil Syntax.ttnil))))))))))))),
+) (List._∷_ (
+  10,
+  Rows'.any-gone (Syntax.tyArray (Syntax.tyInt
+      Syntax.w32) 3),
+) (List._∷_ (11, Rows'.any-gone (Syntax.tyRef Syntax.erased Syntax.mut Of.tyBy)) (List._∷_ (
+  12,
+  Rows'.any-gone (Syntax.tyStruct (List._∷_ 38 (List._∷_ 91
+      (List._∷_ 93 List.[]))) (Syntax.tcons (Syntax.tyRef Syntax.erased Syntax.mut Of.tyBy) (Syntax.tcons (Syntax.tyInt Syntax.w64) Syntax.tnil))),
+) (List._∷_ (
+  13,
+  Rows'.any-gone
+      (Syntax.tyRef Syntax.erased Syntax.mut (Syntax.tyArray (Syntax.tyArray (Syntax.tyInt Syntax.w32) 3) 256)),
+) (List._∷_ (
+  14,
+  Rows'.any-gone (Syntax.tyStruct (List._∷_ 38
+      (List._∷_ 91 (List._∷_ 93 List.[]))) (Syntax.tcons (Syntax.tyRef Syntax.erased Syntax.mut (Syntax.tyArray (Syntax.tyInt Syntax.w32) 3)) (Syntax.tcons (Syntax.tyInt Syntax.w64)
+      Syntax.tnil))),
+) (List._∷_ (15, Rows'.any-gone (Syntax.tyArray (Syntax.tyInt Syntax.w32) 3)) List.[])))))))))))))))
 
 abbrev pub t48 : List.List Row.Entry
 t48 = List._∷_ (0, Rows'.whole (Declared.row Inserted.the-type)) (List._∷_ (
   1,
   Rows'.any-gone (Syntax.tyStruct (List._∷_ 103 (List._∷_ 114 (List._∷_ 101 (List._∷_ 101 (List._∷_
-      110 (List._∷_ 119 (List._∷_ 97 (List._∷_ 108 (List._∷_ 100 (List._∷_ 95 (List._∷_ 107 (List._∷_ 104 (List._∷_ 97 (List._∷_ 110 (List._∷_ 110 (List._∷_ 97 (List._∷_ 58 (List._∷_
-      58 (List._∷_ 83 (List._∷_ 116 (List._∷_ 114 (List._∷_ 101 (List._∷_ 97 (List._∷_ 109 List.[])))))))))))))))))))))))) (Syntax.tcons (Syntax.tyStruct (List._∷_ 102 (List._∷_ 114
-      (List._∷_ 97 (List._∷_ 99 (List._∷_ 116 (List._∷_ 105 (List._∷_ 111 (List._∷_ 110 (List._∷_ 58 (List._∷_ 58 (List._∷_ 70 (List._∷_ 114 (List._∷_ 97 (List._∷_ 99 (List._∷_ 116
-      (List._∷_ 105 (List._∷_ 111 (List._∷_ 110 List.[])))))))))))))))))) (Syntax.tcons (Syntax.tyInt Syntax.w32) (Syntax.tcons (Syntax.tyInt Syntax.w32) Syntax.tnil))) (Syntax.tcons
-      (Syntax.tyInt Syntax.w32) (Syntax.tcons (Syntax.tyInt Syntax.w32) Syntax.tnil)))),
-) (List._∷_ (2, Mut.mslice Of.R (Syntax.tyRef (Syntax.named 0) Syntax.mut Of.tyBy) 0)
-    (List._∷_ (3, Rows'.sc-here (Row.sInt Syntax.w32)) (List._∷_ (4, Rows'.any-gone (Syntax.tyInt Syntax.w64)) (List._∷_ (5, Rows'.any-gone (Syntax.tyInt Syntax.w64)) (List._∷_
-    (6, Rows'.any-gone (Syntax.tyArray (Syntax.tyArray (Syntax.tyInt Syntax.w32) 3) 256)) (List._∷_ (
-      7,
-      Rows'.any-gone (Syntax.tyArray (Syntax.tyArray (Syntax.tyInt Syntax.w32)
-          3) 4096),
-    ) (List._∷_ (8, Rows'.any-gone Syntax.tyBool) (List._∷_ (
-      9,
-      Rows'.any-gone (Syntax.tyEnum (List._∷_ 114 (List._∷_ 101 (List._∷_ 102 (List._∷_ 117 (List._∷_ 115
-          (List._∷_ 97 (List._∷_ 108 (List._∷_ 58 (List._∷_ 58 (List._∷_ 82 (List._∷_ 101 (List._∷_ 102 (List._∷_ 117 (List._∷_ 115 (List._∷_ 97 (List._∷_ 108 List.[]))))))))))))))))
-          (Syntax.ttcons Syntax.tnil (Syntax.ttcons Syntax.tnil (Syntax.ttcons Syntax.tnil (Syntax.ttcons Syntax.tnil (Syntax.ttcons Syntax.tnil (Syntax.ttcons Syntax.tnil (Syntax.ttcons
-          Syntax.tnil (Syntax.ttcons Syntax.tnil (Syntax.ttcons Syntax.tnil (Syntax.ttcons Syntax.tnil (Syntax.ttcons Syntax.tnil (Syntax.ttcons Syntax.tnil Syntax.ttnil))))))))))))),
-    )
-    (List._∷_ (10, Rows'.any-gone (Syntax.tyArray (Syntax.tyInt Syntax.w32) 3)) (List._∷_ (11, Rows'.any-gone (Syntax.tyRef Syntax.erased Syntax.mut Of.tyBy)) (List._∷_ (
-      12,
-      Rows'.any-gone (Syntax.tyStruct (List._∷_ 38 (List._∷_ 91 (List._∷_ 93 List.[]))) (Syntax.tcons (Syntax.tyRef Syntax.erased Syntax.mut Of.tyBy) (Syntax.tcons (Syntax.tyInt
-          Syntax.w64) Syntax.tnil))),
-    ) (List._∷_ (13, Rows'.any-gone (Syntax.tyRef Syntax.erased Syntax.mut (Syntax.tyArray (Syntax.tyArray (Syntax.tyInt Syntax.w32) 3) 256)))
-    (List._∷_ (
-      14,
-      Rows'.any-gone (Syntax.tyStruct (List._∷_ 38 (List._∷_ 91 (List._∷_ 93 List.[]))) (Syntax.tcons (Syntax.tyRef Syntax.erased Syntax.mut (Syntax.tyArray
-          (Syntax.tyInt Syntax.w32) 3)) (Syntax.tcons (Syntax.tyInt Syntax.w64) Syntax.tnil))),
-    ) (List._∷_ (15, Rows'.any-gone (Syntax.tyArray (Syntax.tyInt Syntax.w32) 3))
-    List.[])))))))))))))))
+      110 (List._∷_ 119 (List._∷_ 97 (List._∷_ 108 (List._∷_ 100 (List._∷_ 95 (List._∷_ 107 (List._∷_ 104 (List._∷_ 97 (List._∷_ 110 (List._∷_ 110 (List._∷_ 97 (List._∷_ 95 (List._∷_
+      115 (List._∷_ 116 (List._∷_ 101 (List._∷_ 112 (List._∷_ 115 (List._∷_ 58 (List._∷_ 58 (List._∷_ 83 (List._∷_ 116 (List._∷_ 114 (List._∷_ 101 (List._∷_ 97 (List._∷_ 109
+      List.[])))))))))))))))))))))))))))))) (Syntax.tcons (Syntax.tyStruct (List._∷_ 102 (List._∷_ 114 (List._∷_ 97 (List._∷_ 99 (List._∷_ 116 (List._∷_ 105 (List._∷_ 111 (List._∷_
+      110 (List._∷_ 58 (List._∷_ 58 (List._∷_ 70 (List._∷_ 114 (List._∷_ 97 (List._∷_ 99 (List._∷_ 116 (List._∷_ 105 (List._∷_ 111 (List._∷_ 110 List.[]))))))))))))))))))
+      (Syntax.tcons (Syntax.tyInt Syntax.w32) (Syntax.tcons (Syntax.tyInt Syntax.w32) Syntax.tnil))) (Syntax.tcons (Syntax.tyInt Syntax.w32) (Syntax.tcons (Syntax.tyInt Syntax.w32)
+      Syntax.tnil)))),
+) (List._∷_ (2, Mut.mslice Of.R (Syntax.tyRef (Syntax.named 0) Syntax.mut Of.tyBy) 0) (List._∷_ (3, Rows'.sc-here (Row.sInt Syntax.w32)) (List._∷_ (
+  4,
+  Rows'.any-gone (Syntax.tyInt Syntax.w64),
+) (List._∷_ (5, Rows'.any-gone (Syntax.tyInt Syntax.w64)) (List._∷_ (
+  6,
+  Rows'.any-gone (Syntax.tyArray (Syntax.tyArray (Syntax.tyInt
+      Syntax.w32) 3) 256),
+) (List._∷_ (7, Rows'.any-gone (Syntax.tyArray (Syntax.tyArray (Syntax.tyInt Syntax.w32) 3) 4096)) (List._∷_ (8, Rows'.any-gone Syntax.tyBool) (List._∷_ (
+  9,
+  Rows'.any-gone (Syntax.tyEnum (List._∷_ 114 (List._∷_ 101 (List._∷_ 102 (List._∷_ 117 (List._∷_ 115 (List._∷_ 97 (List._∷_ 108 (List._∷_ 58 (List._∷_ 58 (List._∷_ 82
+      (List._∷_ 101 (List._∷_ 102 (List._∷_ 117 (List._∷_ 115 (List._∷_ 97 (List._∷_ 108 List.[])))))))))))))))) (Syntax.ttcons Syntax.tnil (Syntax.ttcons Syntax.tnil (Syntax.ttcons
+      Syntax.tnil (Syntax.ttcons Syntax.tnil (Syntax.ttcons Syntax.tnil (Syntax.ttcons Syntax.tnil (Syntax.ttcons Syntax.tnil (Syntax.ttcons Syntax.tnil (Syntax.ttcons Syntax.tnil
+      (Syntax.ttcons Syntax.tnil (Syntax.ttcons Syntax.tnil (Syntax.ttcons Syntax.tnil Syntax.ttnil))))))))))))),
+) (List._∷_ (
+  10,
+  Rows'.any-gone (Syntax.tyArray (Syntax.tyInt
+      Syntax.w32) 3),
+) (List._∷_ (11, Rows'.any-gone (Syntax.tyRef Syntax.erased Syntax.mut Of.tyBy)) (List._∷_ (
+  12,
+  Rows'.any-gone (Syntax.tyStruct (List._∷_ 38 (List._∷_ 91
+      (List._∷_ 93 List.[]))) (Syntax.tcons (Syntax.tyRef Syntax.erased Syntax.mut Of.tyBy) (Syntax.tcons (Syntax.tyInt Syntax.w64) Syntax.tnil))),
+) (List._∷_ (
+  13,
+  Rows'.any-gone
+      (Syntax.tyRef Syntax.erased Syntax.mut (Syntax.tyArray (Syntax.tyArray (Syntax.tyInt Syntax.w32) 3) 256)),
+) (List._∷_ (
+  14,
+  Rows'.any-gone (Syntax.tyStruct (List._∷_ 38
+      (List._∷_ 91 (List._∷_ 93 List.[]))) (Syntax.tcons (Syntax.tyRef Syntax.erased Syntax.mut (Syntax.tyArray (Syntax.tyInt Syntax.w32) 3)) (Syntax.tcons (Syntax.tyInt Syntax.w64)
+      Syntax.tnil))),
+) (List._∷_ (15, Rows'.any-gone (Syntax.tyArray (Syntax.tyInt Syntax.w32) 3)) List.[])))))))))))))))
 
 abbrev pub T0 : Row.Cx
 T0 = record { locals = List._++_ t0 t1; slots = List.[] }
@@ -2541,11 +2544,11 @@ module _ (claims· : Claims) where
 
   abbrev s2 : (bs : List.List Nat.ℕ) → Typed.Mo T3 → Typed.Mo T5
   s2 = λ bs. Scalar.n-room T3 1 (Syntax.tyStruct (List._∷_ 103 (List._∷_ 114 (List._∷_ 101 (List._∷_ 101 (List._∷_ 110 (List._∷_ 119 (List._∷_ 97 (List._∷_ 108 (List._∷_ 100
-      (List._∷_ 95 (List._∷_ 107 (List._∷_ 104 (List._∷_ 97 (List._∷_ 110 (List._∷_ 110 (List._∷_ 97 (List._∷_ 58 (List._∷_ 58 (List._∷_ 83 (List._∷_ 116 (List._∷_ 114 (List._∷_
-      101 (List._∷_ 97 (List._∷_ 109 List.[])))))))))))))))))))))))) (Syntax.tcons (Syntax.tyStruct (List._∷_ 102 (List._∷_ 114 (List._∷_ 97 (List._∷_ 99 (List._∷_ 116 (List._∷_
-      105 (List._∷_ 111 (List._∷_ 110 (List._∷_ 58 (List._∷_ 58 (List._∷_ 70 (List._∷_ 114 (List._∷_ 97 (List._∷_ 99 (List._∷_ 116 (List._∷_ 105 (List._∷_ 111 (List._∷_ 110
-      List.[])))))))))))))))))) (Syntax.tcons (Syntax.tyInt Syntax.w32) (Syntax.tcons (Syntax.tyInt Syntax.w32) Syntax.tnil))) (Syntax.tcons (Syntax.tyInt Syntax.w32) (Syntax.tcons
-      (Syntax.tyInt Syntax.w32) Syntax.tnil))))
+      (List._∷_ 95 (List._∷_ 107 (List._∷_ 104 (List._∷_ 97 (List._∷_ 110 (List._∷_ 110 (List._∷_ 97 (List._∷_ 95 (List._∷_ 115 (List._∷_ 116 (List._∷_ 101 (List._∷_ 112 (List._∷_
+      115 (List._∷_ 58 (List._∷_ 58 (List._∷_ 83 (List._∷_ 116 (List._∷_ 114 (List._∷_ 101 (List._∷_ 97 (List._∷_ 109 List.[])))))))))))))))))))))))))))))) (Syntax.tcons
+      (Syntax.tyStruct (List._∷_ 102 (List._∷_ 114 (List._∷_ 97 (List._∷_ 99 (List._∷_ 116 (List._∷_ 105 (List._∷_ 111 (List._∷_ 110 (List._∷_ 58 (List._∷_ 58 (List._∷_ 70
+      (List._∷_ 114 (List._∷_ 97 (List._∷_ 99 (List._∷_ 116 (List._∷_ 105 (List._∷_ 111 (List._∷_ 110 List.[])))))))))))))))))) (Syntax.tcons (Syntax.tyInt Syntax.w32)
+      (Syntax.tcons (Syntax.tyInt Syntax.w32) Syntax.tnil))) (Syntax.tcons (Syntax.tyInt Syntax.w32) (Syntax.tcons (Syntax.tyInt Syntax.w32) Syntax.tnil))))
 
   abbrev s3 : (bs : List.List Nat.ℕ) → Typed.Mo T5 → Typed.Mo T6
   s3 = λ bs. Scalar.n-room T5 8 Syntax.tyBool
@@ -2639,23 +2642,23 @@ module _ (claims· : Claims) where
       119 (List._∷_ 97 (List._∷_ 108 (List._∷_ 100 (List._∷_ 95 (List._∷_ 107 (List._∷_ 104 (List._∷_ 97 (List._∷_ 110 (List._∷_ 110 (List._∷_ 97 (List._∷_ 58 (List._∷_ 58
       (List._∷_ 73 (List._∷_ 110 (List._∷_ 115 (List._∷_ 101 (List._∷_ 114 (List._∷_ 116 (List._∷_ 101 (List._∷_ 100 List.[])))))))))))))))))))))))))) (Syntax.ttcons (Syntax.tcons
       (Syntax.tyStruct (List._∷_ 103 (List._∷_ 114 (List._∷_ 101 (List._∷_ 101 (List._∷_ 110 (List._∷_ 119 (List._∷_ 97 (List._∷_ 108 (List._∷_ 100 (List._∷_ 95 (List._∷_ 107
-      (List._∷_ 104 (List._∷_ 97 (List._∷_ 110 (List._∷_ 110 (List._∷_ 97 (List._∷_ 58 (List._∷_ 58 (List._∷_ 83 (List._∷_ 116 (List._∷_ 114 (List._∷_ 101 (List._∷_ 97 (List._∷_
-      109 List.[])))))))))))))))))))))))) (Syntax.tcons (Syntax.tyStruct (List._∷_ 102 (List._∷_ 114 (List._∷_ 97 (List._∷_ 99 (List._∷_ 116 (List._∷_ 105 (List._∷_ 111 (List._∷_
-      110 (List._∷_ 58 (List._∷_ 58 (List._∷_ 70 (List._∷_ 114 (List._∷_ 97 (List._∷_ 99 (List._∷_ 116 (List._∷_ 105 (List._∷_ 111 (List._∷_ 110 List.[]))))))))))))))))))
-      (Syntax.tcons (Syntax.tyInt Syntax.w32) (Syntax.tcons (Syntax.tyInt Syntax.w32) Syntax.tnil))) (Syntax.tcons (Syntax.tyInt Syntax.w32) (Syntax.tcons (Syntax.tyInt Syntax.w32)
-      Syntax.tnil)))) Syntax.tnil) (Syntax.ttcons (Syntax.tcons (Syntax.tyEnum (List._∷_ 114 (List._∷_ 101 (List._∷_ 102 (List._∷_ 117 (List._∷_ 115 (List._∷_ 97 (List._∷_ 108
-      (List._∷_ 58 (List._∷_ 58 (List._∷_ 82 (List._∷_ 101 (List._∷_ 102 (List._∷_ 117 (List._∷_ 115 (List._∷_ 97 (List._∷_ 108 List.[])))))))))))))))) (Syntax.ttcons Syntax.tnil
-      (Syntax.ttcons Syntax.tnil (Syntax.ttcons Syntax.tnil (Syntax.ttcons Syntax.tnil (Syntax.ttcons Syntax.tnil (Syntax.ttcons Syntax.tnil (Syntax.ttcons Syntax.tnil
-      (Syntax.ttcons Syntax.tnil (Syntax.ttcons Syntax.tnil (Syntax.ttcons Syntax.tnil (Syntax.ttcons Syntax.tnil (Syntax.ttcons Syntax.tnil Syntax.ttnil))))))))))))) Syntax.tnil)
-      Syntax.ttnil)))
+      (List._∷_ 104 (List._∷_ 97 (List._∷_ 110 (List._∷_ 110 (List._∷_ 97 (List._∷_ 95 (List._∷_ 115 (List._∷_ 116 (List._∷_ 101 (List._∷_ 112 (List._∷_ 115 (List._∷_ 58 (List._∷_
+      58 (List._∷_ 83 (List._∷_ 116 (List._∷_ 114 (List._∷_ 101 (List._∷_ 97 (List._∷_ 109 List.[])))))))))))))))))))))))))))))) (Syntax.tcons (Syntax.tyStruct (List._∷_ 102
+      (List._∷_ 114 (List._∷_ 97 (List._∷_ 99 (List._∷_ 116 (List._∷_ 105 (List._∷_ 111 (List._∷_ 110 (List._∷_ 58 (List._∷_ 58 (List._∷_ 70 (List._∷_ 114 (List._∷_ 97 (List._∷_ 99
+      (List._∷_ 116 (List._∷_ 105 (List._∷_ 111 (List._∷_ 110 List.[])))))))))))))))))) (Syntax.tcons (Syntax.tyInt Syntax.w32) (Syntax.tcons (Syntax.tyInt Syntax.w32)
+      Syntax.tnil))) (Syntax.tcons (Syntax.tyInt Syntax.w32) (Syntax.tcons (Syntax.tyInt Syntax.w32) Syntax.tnil)))) Syntax.tnil) (Syntax.ttcons (Syntax.tcons (Syntax.tyEnum
+      (List._∷_ 114 (List._∷_ 101 (List._∷_ 102 (List._∷_ 117 (List._∷_ 115 (List._∷_ 97 (List._∷_ 108 (List._∷_ 58 (List._∷_ 58 (List._∷_ 82 (List._∷_ 101 (List._∷_ 102 (List._∷_
+      117 (List._∷_ 115 (List._∷_ 97 (List._∷_ 108 List.[])))))))))))))))) (Syntax.ttcons Syntax.tnil (Syntax.ttcons Syntax.tnil (Syntax.ttcons Syntax.tnil (Syntax.ttcons
+      Syntax.tnil (Syntax.ttcons Syntax.tnil (Syntax.ttcons Syntax.tnil (Syntax.ttcons Syntax.tnil (Syntax.ttcons Syntax.tnil (Syntax.ttcons Syntax.tnil (Syntax.ttcons Syntax.tnil
+      (Syntax.ttcons Syntax.tnil (Syntax.ttcons Syntax.tnil Syntax.ttnil))))))))))))) Syntax.tnil) Syntax.ttnil)))
 
   abbrev s25 : (bs : List.List Nat.ℕ) → Typed.Mo T28 → Typed.Mo T29
   s25 = λ bs. Scalar.n-room T28 1 (Syntax.tyStruct (List._∷_ 103 (List._∷_ 114 (List._∷_ 101 (List._∷_ 101 (List._∷_ 110 (List._∷_ 119 (List._∷_ 97 (List._∷_ 108 (List._∷_ 100
-      (List._∷_ 95 (List._∷_ 107 (List._∷_ 104 (List._∷_ 97 (List._∷_ 110 (List._∷_ 110 (List._∷_ 97 (List._∷_ 58 (List._∷_ 58 (List._∷_ 83 (List._∷_ 116 (List._∷_ 114 (List._∷_
-      101 (List._∷_ 97 (List._∷_ 109 List.[])))))))))))))))))))))))) (Syntax.tcons (Syntax.tyStruct (List._∷_ 102 (List._∷_ 114 (List._∷_ 97 (List._∷_ 99 (List._∷_ 116 (List._∷_
-      105 (List._∷_ 111 (List._∷_ 110 (List._∷_ 58 (List._∷_ 58 (List._∷_ 70 (List._∷_ 114 (List._∷_ 97 (List._∷_ 99 (List._∷_ 116 (List._∷_ 105 (List._∷_ 111 (List._∷_ 110
-      List.[])))))))))))))))))) (Syntax.tcons (Syntax.tyInt Syntax.w32) (Syntax.tcons (Syntax.tyInt Syntax.w32) Syntax.tnil))) (Syntax.tcons (Syntax.tyInt Syntax.w32) (Syntax.tcons
-      (Syntax.tyInt Syntax.w32) Syntax.tnil))))
+      (List._∷_ 95 (List._∷_ 107 (List._∷_ 104 (List._∷_ 97 (List._∷_ 110 (List._∷_ 110 (List._∷_ 97 (List._∷_ 95 (List._∷_ 115 (List._∷_ 116 (List._∷_ 101 (List._∷_ 112 (List._∷_
+      115 (List._∷_ 58 (List._∷_ 58 (List._∷_ 83 (List._∷_ 116 (List._∷_ 114 (List._∷_ 101 (List._∷_ 97 (List._∷_ 109 List.[])))))))))))))))))))))))))))))) (Syntax.tcons
+      (Syntax.tyStruct (List._∷_ 102 (List._∷_ 114 (List._∷_ 97 (List._∷_ 99 (List._∷_ 116 (List._∷_ 105 (List._∷_ 111 (List._∷_ 110 (List._∷_ 58 (List._∷_ 58 (List._∷_ 70
+      (List._∷_ 114 (List._∷_ 97 (List._∷_ 99 (List._∷_ 116 (List._∷_ 105 (List._∷_ 111 (List._∷_ 110 List.[])))))))))))))))))) (Syntax.tcons (Syntax.tyInt Syntax.w32)
+      (Syntax.tcons (Syntax.tyInt Syntax.w32) Syntax.tnil))) (Syntax.tcons (Syntax.tyInt Syntax.w32) (Syntax.tcons (Syntax.tyInt Syntax.w32) Syntax.tnil))))
 
   abbrev s27 : (bs : List.List Nat.ℕ) → Typed.Both T29 T31
   s27 = λ bs. Relend.k-back-sl Of.R T29 12 2 0 1 (Syntax.tyRef (Syntax.named 0) Syntax.mut Of.tyBy) (Syntax.tyRef Syntax.erased Syntax.mut Of.tyBy) Row.off (λ x. x) λ x. x
@@ -2737,23 +2740,23 @@ module _ (claims· : Claims) where
       119 (List._∷_ 97 (List._∷_ 108 (List._∷_ 100 (List._∷_ 95 (List._∷_ 107 (List._∷_ 104 (List._∷_ 97 (List._∷_ 110 (List._∷_ 110 (List._∷_ 97 (List._∷_ 58 (List._∷_ 58
       (List._∷_ 73 (List._∷_ 110 (List._∷_ 115 (List._∷_ 101 (List._∷_ 114 (List._∷_ 116 (List._∷_ 101 (List._∷_ 100 List.[])))))))))))))))))))))))))) (Syntax.ttcons (Syntax.tcons
       (Syntax.tyStruct (List._∷_ 103 (List._∷_ 114 (List._∷_ 101 (List._∷_ 101 (List._∷_ 110 (List._∷_ 119 (List._∷_ 97 (List._∷_ 108 (List._∷_ 100 (List._∷_ 95 (List._∷_ 107
-      (List._∷_ 104 (List._∷_ 97 (List._∷_ 110 (List._∷_ 110 (List._∷_ 97 (List._∷_ 58 (List._∷_ 58 (List._∷_ 83 (List._∷_ 116 (List._∷_ 114 (List._∷_ 101 (List._∷_ 97 (List._∷_
-      109 List.[])))))))))))))))))))))))) (Syntax.tcons (Syntax.tyStruct (List._∷_ 102 (List._∷_ 114 (List._∷_ 97 (List._∷_ 99 (List._∷_ 116 (List._∷_ 105 (List._∷_ 111 (List._∷_
-      110 (List._∷_ 58 (List._∷_ 58 (List._∷_ 70 (List._∷_ 114 (List._∷_ 97 (List._∷_ 99 (List._∷_ 116 (List._∷_ 105 (List._∷_ 111 (List._∷_ 110 List.[]))))))))))))))))))
-      (Syntax.tcons (Syntax.tyInt Syntax.w32) (Syntax.tcons (Syntax.tyInt Syntax.w32) Syntax.tnil))) (Syntax.tcons (Syntax.tyInt Syntax.w32) (Syntax.tcons (Syntax.tyInt Syntax.w32)
-      Syntax.tnil)))) Syntax.tnil) (Syntax.ttcons (Syntax.tcons (Syntax.tyEnum (List._∷_ 114 (List._∷_ 101 (List._∷_ 102 (List._∷_ 117 (List._∷_ 115 (List._∷_ 97 (List._∷_ 108
-      (List._∷_ 58 (List._∷_ 58 (List._∷_ 82 (List._∷_ 101 (List._∷_ 102 (List._∷_ 117 (List._∷_ 115 (List._∷_ 97 (List._∷_ 108 List.[])))))))))))))))) (Syntax.ttcons Syntax.tnil
-      (Syntax.ttcons Syntax.tnil (Syntax.ttcons Syntax.tnil (Syntax.ttcons Syntax.tnil (Syntax.ttcons Syntax.tnil (Syntax.ttcons Syntax.tnil (Syntax.ttcons Syntax.tnil
-      (Syntax.ttcons Syntax.tnil (Syntax.ttcons Syntax.tnil (Syntax.ttcons Syntax.tnil (Syntax.ttcons Syntax.tnil (Syntax.ttcons Syntax.tnil Syntax.ttnil))))))))))))) Syntax.tnil)
-      Syntax.ttnil)))
+      (List._∷_ 104 (List._∷_ 97 (List._∷_ 110 (List._∷_ 110 (List._∷_ 97 (List._∷_ 95 (List._∷_ 115 (List._∷_ 116 (List._∷_ 101 (List._∷_ 112 (List._∷_ 115 (List._∷_ 58 (List._∷_
+      58 (List._∷_ 83 (List._∷_ 116 (List._∷_ 114 (List._∷_ 101 (List._∷_ 97 (List._∷_ 109 List.[])))))))))))))))))))))))))))))) (Syntax.tcons (Syntax.tyStruct (List._∷_ 102
+      (List._∷_ 114 (List._∷_ 97 (List._∷_ 99 (List._∷_ 116 (List._∷_ 105 (List._∷_ 111 (List._∷_ 110 (List._∷_ 58 (List._∷_ 58 (List._∷_ 70 (List._∷_ 114 (List._∷_ 97 (List._∷_ 99
+      (List._∷_ 116 (List._∷_ 105 (List._∷_ 111 (List._∷_ 110 List.[])))))))))))))))))) (Syntax.tcons (Syntax.tyInt Syntax.w32) (Syntax.tcons (Syntax.tyInt Syntax.w32)
+      Syntax.tnil))) (Syntax.tcons (Syntax.tyInt Syntax.w32) (Syntax.tcons (Syntax.tyInt Syntax.w32) Syntax.tnil)))) Syntax.tnil) (Syntax.ttcons (Syntax.tcons (Syntax.tyEnum
+      (List._∷_ 114 (List._∷_ 101 (List._∷_ 102 (List._∷_ 117 (List._∷_ 115 (List._∷_ 97 (List._∷_ 108 (List._∷_ 58 (List._∷_ 58 (List._∷_ 82 (List._∷_ 101 (List._∷_ 102 (List._∷_
+      117 (List._∷_ 115 (List._∷_ 97 (List._∷_ 108 List.[])))))))))))))))) (Syntax.ttcons Syntax.tnil (Syntax.ttcons Syntax.tnil (Syntax.ttcons Syntax.tnil (Syntax.ttcons
+      Syntax.tnil (Syntax.ttcons Syntax.tnil (Syntax.ttcons Syntax.tnil (Syntax.ttcons Syntax.tnil (Syntax.ttcons Syntax.tnil (Syntax.ttcons Syntax.tnil (Syntax.ttcons Syntax.tnil
+      (Syntax.ttcons Syntax.tnil (Syntax.ttcons Syntax.tnil Syntax.ttnil))))))))))))) Syntax.tnil) Syntax.ttnil)))
 
   abbrev s49 : (bs : List.List Nat.ℕ) → Typed.Mo T52 → Typed.Mo T53
   s49 = λ bs. Scalar.n-room T52 1 (Syntax.tyStruct (List._∷_ 103 (List._∷_ 114 (List._∷_ 101 (List._∷_ 101 (List._∷_ 110 (List._∷_ 119 (List._∷_ 97 (List._∷_ 108 (List._∷_ 100
-      (List._∷_ 95 (List._∷_ 107 (List._∷_ 104 (List._∷_ 97 (List._∷_ 110 (List._∷_ 110 (List._∷_ 97 (List._∷_ 58 (List._∷_ 58 (List._∷_ 83 (List._∷_ 116 (List._∷_ 114 (List._∷_
-      101 (List._∷_ 97 (List._∷_ 109 List.[])))))))))))))))))))))))) (Syntax.tcons (Syntax.tyStruct (List._∷_ 102 (List._∷_ 114 (List._∷_ 97 (List._∷_ 99 (List._∷_ 116 (List._∷_
-      105 (List._∷_ 111 (List._∷_ 110 (List._∷_ 58 (List._∷_ 58 (List._∷_ 70 (List._∷_ 114 (List._∷_ 97 (List._∷_ 99 (List._∷_ 116 (List._∷_ 105 (List._∷_ 111 (List._∷_ 110
-      List.[])))))))))))))))))) (Syntax.tcons (Syntax.tyInt Syntax.w32) (Syntax.tcons (Syntax.tyInt Syntax.w32) Syntax.tnil))) (Syntax.tcons (Syntax.tyInt Syntax.w32) (Syntax.tcons
-      (Syntax.tyInt Syntax.w32) Syntax.tnil))))
+      (List._∷_ 95 (List._∷_ 107 (List._∷_ 104 (List._∷_ 97 (List._∷_ 110 (List._∷_ 110 (List._∷_ 97 (List._∷_ 95 (List._∷_ 115 (List._∷_ 116 (List._∷_ 101 (List._∷_ 112 (List._∷_
+      115 (List._∷_ 58 (List._∷_ 58 (List._∷_ 83 (List._∷_ 116 (List._∷_ 114 (List._∷_ 101 (List._∷_ 97 (List._∷_ 109 List.[])))))))))))))))))))))))))))))) (Syntax.tcons
+      (Syntax.tyStruct (List._∷_ 102 (List._∷_ 114 (List._∷_ 97 (List._∷_ 99 (List._∷_ 116 (List._∷_ 105 (List._∷_ 111 (List._∷_ 110 (List._∷_ 58 (List._∷_ 58 (List._∷_ 70
+      (List._∷_ 114 (List._∷_ 97 (List._∷_ 99 (List._∷_ 116 (List._∷_ 105 (List._∷_ 111 (List._∷_ 110 List.[])))))))))))))))))) (Syntax.tcons (Syntax.tyInt Syntax.w32)
+      (Syntax.tcons (Syntax.tyInt Syntax.w32) Syntax.tnil))) (Syntax.tcons (Syntax.tyInt Syntax.w32) (Syntax.tcons (Syntax.tyInt Syntax.w32) Syntax.tnil))))
 
   abbrev s50 : (bs : List.List Nat.ℕ) → Typed.Mo T53 → Typed.Mo T54
   s50 = λ bs. Scalar.n-room T53 4 (Syntax.tyInt Syntax.w64)
@@ -3005,45 +3008,52 @@ module _ (claims· : Claims) where
               100 (List._∷_ 95 (List._∷_ 107 (List._∷_ 104 (List._∷_ 97 (List._∷_ 110 (List._∷_ 110 (List._∷_ 97 (List._∷_ 58 (List._∷_ 58 (List._∷_ 73 (List._∷_ 110 (List._∷_ 115
               (List._∷_ 101 (List._∷_ 114 (List._∷_ 116 (List._∷_ 101 (List._∷_ 100 List.[])))))))))))))))))))))))))) (Syntax.ttcons (Syntax.tcons (Syntax.tyStruct (List._∷_ 103
               (List._∷_ 114 (List._∷_ 101 (List._∷_ 101 (List._∷_ 110 (List._∷_ 119 (List._∷_ 97 (List._∷_ 108 (List._∷_ 100 (List._∷_ 95 (List._∷_ 107 (List._∷_ 104 (List._∷_ 97
-              (List._∷_ 110 (List._∷_ 110 (List._∷_ 97 (List._∷_ 58 (List._∷_ 58 (List._∷_ 83 (List._∷_ 116 (List._∷_ 114 (List._∷_ 101 (List._∷_ 97 (List._∷_ 109
-              List.[])))))))))))))))))))))))) (Syntax.tcons (Syntax.tyStruct (List._∷_ 102 (List._∷_ 114 (List._∷_ 97 (List._∷_ 99 (List._∷_ 116 (List._∷_ 105 (List._∷_ 111 (List._∷_
-              110 (List._∷_ 58 (List._∷_ 58 (List._∷_ 70 (List._∷_ 114 (List._∷_ 97 (List._∷_ 99 (List._∷_ 116 (List._∷_ 105 (List._∷_ 111 (List._∷_ 110 List.[]))))))))))))))))))
-              (Syntax.tcons (Syntax.tyInt Syntax.w32) (Syntax.tcons (Syntax.tyInt Syntax.w32) Syntax.tnil))) (Syntax.tcons (Syntax.tyInt Syntax.w32) (Syntax.tcons (Syntax.tyInt
-              Syntax.w32) Syntax.tnil)))) Syntax.tnil) (Syntax.ttcons (Syntax.tcons (Syntax.tyEnum (List._∷_ 114 (List._∷_ 101 (List._∷_ 102 (List._∷_ 117 (List._∷_ 115 (List._∷_ 97
-              (List._∷_ 108 (List._∷_ 58 (List._∷_ 58 (List._∷_ 82 (List._∷_ 101 (List._∷_ 102 (List._∷_ 117 (List._∷_ 115 (List._∷_ 97 (List._∷_ 108 List.[]))))))))))))))))
+              (List._∷_ 110 (List._∷_ 110 (List._∷_ 97 (List._∷_ 95 (List._∷_ 115 (List._∷_ 116 (List._∷_ 101 (List._∷_ 112 (List._∷_ 115 (List._∷_ 58 (List._∷_ 58 (List._∷_ 83
+              (List._∷_ 116 (List._∷_ 114 (List._∷_ 101 (List._∷_ 97 (List._∷_ 109 List.[])))))))))))))))))))))))))))))) (Syntax.tcons (Syntax.tyStruct (List._∷_ 102 (List._∷_ 114
+              (List._∷_ 97 (List._∷_ 99 (List._∷_ 116 (List._∷_ 105 (List._∷_ 111 (List._∷_ 110 (List._∷_ 58 (List._∷_ 58 (List._∷_ 70 (List._∷_ 114 (List._∷_ 97 (List._∷_ 99
+              (List._∷_ 116 (List._∷_ 105 (List._∷_ 111 (List._∷_ 110 List.[])))))))))))))))))) (Syntax.tcons (Syntax.tyInt Syntax.w32) (Syntax.tcons (Syntax.tyInt Syntax.w32)
+              Syntax.tnil))) (Syntax.tcons (Syntax.tyInt Syntax.w32) (Syntax.tcons (Syntax.tyInt Syntax.w32) Syntax.tnil)))) Syntax.tnil) (Syntax.ttcons (Syntax.tcons (Syntax.tyEnum
+              (List._∷_ 114 (List._∷_ 101 (List._∷_ 102 (List._∷_ 117 (List._∷_ 115 (List._∷_ 97 (List._∷_ 108 (List._∷_ 58 (List._∷_ 58 (List._∷_ 82 (List._∷_ 101 (List._∷_ 102
+              (List._∷_ 117 (List._∷_ 115 (List._∷_ 97 (List._∷_ 108 List.[])))))))))))))))) (Syntax.ttcons Syntax.tnil (Syntax.ttcons Syntax.tnil (Syntax.ttcons Syntax.tnil
               (Syntax.ttcons Syntax.tnil (Syntax.ttcons Syntax.tnil (Syntax.ttcons Syntax.tnil (Syntax.ttcons Syntax.tnil (Syntax.ttcons Syntax.tnil (Syntax.ttcons Syntax.tnil
-              (Syntax.ttcons Syntax.tnil (Syntax.ttcons Syntax.tnil (Syntax.ttcons Syntax.tnil (Syntax.ttcons Syntax.tnil (Syntax.ttcons Syntax.tnil (Syntax.ttcons Syntax.tnil
-              Syntax.ttnil))))))))))))) Syntax.tnil) Syntax.ttnil))),
-        ) (List._∷_ (1, Rows'.whole (Declared'.row Stream.the-type)) (List._∷_ (
-          2,
-          Relend.mslice-owed Of.R
-              (Syntax.tyRef (Syntax.named 0) Syntax.mut Of.tyBy) 0 1 (Row.lease (κs .0) (qs .0)),
-        ) (List._∷_ (3, Rows'.sc-here (Row.sInt Syntax.w32)) (List._∷_ (
-          4,
-          Rows'.sc-here
-              (Row.sInt Syntax.w64),
-        ) (List._∷_ (5, Rows'.sc-here (Row.sInt Syntax.w64)) (List._∷_ (6, Rows.arrF (Array'.Array (Referent.rtF (Referent.fInt Syntax.w32)) 3) 256 0)
-            (List._∷_ (7, Rows'.any-gone (Syntax.tyArray (Syntax.tyArray (Syntax.tyInt Syntax.w32) 3) 4096)) (List._∷_ (8, Rows'.any-gone Syntax.tyBool) (List._∷_ (
-              9,
-              Rows'.any-gone (Syntax.tyEnum (List._∷_ 114 (List._∷_ 101 (List._∷_ 102 (List._∷_ 117 (List._∷_ 115 (List._∷_ 97 (List._∷_ 108 (List._∷_ 58 (List._∷_ 58 (List._∷_ 82
-                  (List._∷_ 101 (List._∷_ 102 (List._∷_ 117 (List._∷_ 115 (List._∷_ 97 (List._∷_ 108 List.[])))))))))))))))) (Syntax.ttcons Syntax.tnil (Syntax.ttcons Syntax.tnil
-                  (Syntax.ttcons Syntax.tnil (Syntax.ttcons Syntax.tnil (Syntax.ttcons Syntax.tnil (Syntax.ttcons Syntax.tnil (Syntax.ttcons Syntax.tnil (Syntax.ttcons Syntax.tnil
-                  (Syntax.ttcons Syntax.tnil (Syntax.ttcons Syntax.tnil (Syntax.ttcons Syntax.tnil (Syntax.ttcons Syntax.tnil Syntax.ttnil))))))))))))),
+              (Syntax.ttcons Syntax.tnil (Syntax.ttcons Syntax.tnil (Syntax.ttcons Syntax.tnil Syntax.ttnil))))))))))))) Syntax.tnil) Syntax.ttnil))),
+        ) (List._∷_ (
+          1,
+          Rows'.whole
+              (Declared'.row Stream.the-type),
+        ) (List._∷_ (2, Relend.mslice-owed Of.R (Syntax.tyRef (Syntax.named 0) Syntax.mut Of.tyBy) 0 1 (Row.lease (κs .0) (qs .0))) (List._∷_
+            (3, Rows'.sc-here (Row.sInt Syntax.w32)) (List._∷_ (4, Rows'.sc-here (Row.sInt Syntax.w64)) (List._∷_ (5, Rows'.sc-here (Row.sInt Syntax.w64)) (List._∷_ (
+              6,
+              Rows.arrF (Array'.Array (Referent.rtF (Referent.fInt Syntax.w32)) 3) 256 0,
             ) (List._∷_ (
-              10,
-              Rows'.any-gone
-                  (Syntax.tyArray (Syntax.tyInt Syntax.w32) 3),
-            ) (List._∷_ (11, Relend.msptr Of.R (Syntax.tyRef Syntax.erased Syntax.mut Of.tyBy) 1) (List._∷_ (
+              7,
+              Rows'.any-gone (Syntax.tyArray (Syntax.tyArray (Syntax.tyInt Syntax.w32) 3)
+                  4096),
+            ) (List._∷_ (8, Rows'.any-gone Syntax.tyBool) (List._∷_ (
+              9,
+              Rows'.any-gone (Syntax.tyEnum (List._∷_ 114 (List._∷_ 101 (List._∷_ 102 (List._∷_ 117 (List._∷_ 115
+                  (List._∷_ 97 (List._∷_ 108 (List._∷_ 58 (List._∷_ 58 (List._∷_ 82 (List._∷_ 101 (List._∷_ 102 (List._∷_ 117 (List._∷_ 115 (List._∷_ 97 (List._∷_ 108
+                  List.[])))))))))))))))) (Syntax.ttcons Syntax.tnil (Syntax.ttcons Syntax.tnil (Syntax.ttcons Syntax.tnil (Syntax.ttcons Syntax.tnil (Syntax.ttcons Syntax.tnil
+                  (Syntax.ttcons Syntax.tnil (Syntax.ttcons Syntax.tnil (Syntax.ttcons Syntax.tnil (Syntax.ttcons Syntax.tnil (Syntax.ttcons Syntax.tnil (Syntax.ttcons Syntax.tnil
+                  (Syntax.ttcons Syntax.tnil Syntax.ttnil))))))))))))),
+            ) (List._∷_ (10, Rows'.any-gone (Syntax.tyArray (Syntax.tyInt Syntax.w32) 3)) (List._∷_ (
+              11,
+              Relend.msptr Of.R
+                  (Syntax.tyRef Syntax.erased Syntax.mut Of.tyBy) 1,
+            ) (List._∷_ (
               12,
-              Rows'.any-gone
-                  (Syntax.tyStruct (List._∷_ 38 (List._∷_ 91 (List._∷_ 93 List.[]))) (Syntax.tcons (Syntax.tyRef Syntax.erased Syntax.mut Of.tyBy) (Syntax.tcons (Syntax.tyInt Syntax.w64)
-                  Syntax.tnil))),
-            ) (List._∷_ (13, Rows'.any-gone (Syntax.tyRef Syntax.erased Syntax.mut (Syntax.tyArray (Syntax.tyArray (Syntax.tyInt Syntax.w32) 3) 256))) (List._∷_ (
+              Rows'.any-gone (Syntax.tyStruct (List._∷_ 38 (List._∷_ 91 (List._∷_ 93 List.[]))) (Syntax.tcons
+                  (Syntax.tyRef Syntax.erased Syntax.mut Of.tyBy) (Syntax.tcons (Syntax.tyInt Syntax.w64) Syntax.tnil))),
+            ) (List._∷_ (
+              13,
+              Rows'.any-gone (Syntax.tyRef Syntax.erased
+                  Syntax.mut (Syntax.tyArray (Syntax.tyArray (Syntax.tyInt Syntax.w32) 3) 256)),
+            ) (List._∷_ (
               14,
-              Rows'.any-gone (Syntax.tyStruct (List._∷_ 38 (List._∷_ 91 (List._∷_ 93 List.[]))) (Syntax.tcons (Syntax.tyRef Syntax.erased Syntax.mut (Syntax.tyArray
-                  (Syntax.tyInt Syntax.w32) 3)) (Syntax.tcons (Syntax.tyInt Syntax.w64) Syntax.tnil))),
-            ) (List._∷_ (15, Rows'.any-gone (Syntax.tyArray (Syntax.tyInt Syntax.w32) 3))
-            List.[])))))))))))))))
+              Rows'.any-gone (Syntax.tyStruct (List._∷_ 38 (List._∷_ 91 (List._∷_ 93
+                  List.[]))) (Syntax.tcons (Syntax.tyRef Syntax.erased Syntax.mut (Syntax.tyArray (Syntax.tyInt Syntax.w32) 3)) (Syntax.tcons (Syntax.tyInt Syntax.w64) Syntax.tnil))),
+            )
+            (List._∷_ (15, Rows'.any-gone (Syntax.tyArray (Syntax.tyInt Syntax.w32) 3)) List.[])))))))))))))))
 
         abbrev g19 : List.List Row.Entry
         g19 = List._∷_ (
@@ -3052,51 +3062,48 @@ module _ (claims· : Claims) where
               100 (List._∷_ 95 (List._∷_ 107 (List._∷_ 104 (List._∷_ 97 (List._∷_ 110 (List._∷_ 110 (List._∷_ 97 (List._∷_ 58 (List._∷_ 58 (List._∷_ 73 (List._∷_ 110 (List._∷_ 115
               (List._∷_ 101 (List._∷_ 114 (List._∷_ 116 (List._∷_ 101 (List._∷_ 100 List.[])))))))))))))))))))))))))) (Syntax.ttcons (Syntax.tcons (Syntax.tyStruct (List._∷_ 103
               (List._∷_ 114 (List._∷_ 101 (List._∷_ 101 (List._∷_ 110 (List._∷_ 119 (List._∷_ 97 (List._∷_ 108 (List._∷_ 100 (List._∷_ 95 (List._∷_ 107 (List._∷_ 104 (List._∷_ 97
-              (List._∷_ 110 (List._∷_ 110 (List._∷_ 97 (List._∷_ 58 (List._∷_ 58 (List._∷_ 83 (List._∷_ 116 (List._∷_ 114 (List._∷_ 101 (List._∷_ 97 (List._∷_ 109
-              List.[])))))))))))))))))))))))) (Syntax.tcons (Syntax.tyStruct (List._∷_ 102 (List._∷_ 114 (List._∷_ 97 (List._∷_ 99 (List._∷_ 116 (List._∷_ 105 (List._∷_ 111 (List._∷_
-              110 (List._∷_ 58 (List._∷_ 58 (List._∷_ 70 (List._∷_ 114 (List._∷_ 97 (List._∷_ 99 (List._∷_ 116 (List._∷_ 105 (List._∷_ 111 (List._∷_ 110 List.[]))))))))))))))))))
-              (Syntax.tcons (Syntax.tyInt Syntax.w32) (Syntax.tcons (Syntax.tyInt Syntax.w32) Syntax.tnil))) (Syntax.tcons (Syntax.tyInt Syntax.w32) (Syntax.tcons (Syntax.tyInt
-              Syntax.w32) Syntax.tnil)))) Syntax.tnil) (Syntax.ttcons (Syntax.tcons (Syntax.tyEnum (List._∷_ 114 (List._∷_ 101 (List._∷_ 102 (List._∷_ 117 (List._∷_ 115 (List._∷_ 97
-              (List._∷_ 108 (List._∷_ 58 (List._∷_ 58 (List._∷_ 82 (List._∷_ 101 (List._∷_ 102 (List._∷_ 117 (List._∷_ 115 (List._∷_ 97 (List._∷_ 108 List.[]))))))))))))))))
+              (List._∷_ 110 (List._∷_ 110 (List._∷_ 97 (List._∷_ 95 (List._∷_ 115 (List._∷_ 116 (List._∷_ 101 (List._∷_ 112 (List._∷_ 115 (List._∷_ 58 (List._∷_ 58 (List._∷_ 83
+              (List._∷_ 116 (List._∷_ 114 (List._∷_ 101 (List._∷_ 97 (List._∷_ 109 List.[])))))))))))))))))))))))))))))) (Syntax.tcons (Syntax.tyStruct (List._∷_ 102 (List._∷_ 114
+              (List._∷_ 97 (List._∷_ 99 (List._∷_ 116 (List._∷_ 105 (List._∷_ 111 (List._∷_ 110 (List._∷_ 58 (List._∷_ 58 (List._∷_ 70 (List._∷_ 114 (List._∷_ 97 (List._∷_ 99
+              (List._∷_ 116 (List._∷_ 105 (List._∷_ 111 (List._∷_ 110 List.[])))))))))))))))))) (Syntax.tcons (Syntax.tyInt Syntax.w32) (Syntax.tcons (Syntax.tyInt Syntax.w32)
+              Syntax.tnil))) (Syntax.tcons (Syntax.tyInt Syntax.w32) (Syntax.tcons (Syntax.tyInt Syntax.w32) Syntax.tnil)))) Syntax.tnil) (Syntax.ttcons (Syntax.tcons (Syntax.tyEnum
+              (List._∷_ 114 (List._∷_ 101 (List._∷_ 102 (List._∷_ 117 (List._∷_ 115 (List._∷_ 97 (List._∷_ 108 (List._∷_ 58 (List._∷_ 58 (List._∷_ 82 (List._∷_ 101 (List._∷_ 102
+              (List._∷_ 117 (List._∷_ 115 (List._∷_ 97 (List._∷_ 108 List.[])))))))))))))))) (Syntax.ttcons Syntax.tnil (Syntax.ttcons Syntax.tnil (Syntax.ttcons Syntax.tnil
               (Syntax.ttcons Syntax.tnil (Syntax.ttcons Syntax.tnil (Syntax.ttcons Syntax.tnil (Syntax.ttcons Syntax.tnil (Syntax.ttcons Syntax.tnil (Syntax.ttcons Syntax.tnil
-              (Syntax.ttcons Syntax.tnil (Syntax.ttcons Syntax.tnil (Syntax.ttcons Syntax.tnil (Syntax.ttcons Syntax.tnil (Syntax.ttcons Syntax.tnil (Syntax.ttcons Syntax.tnil
-              Syntax.ttnil))))))))))))) Syntax.tnil) Syntax.ttnil))),
-        ) (List._∷_ (1, Rows'.whole (Declared'.row Stream.the-type)) (List._∷_ (
-          2,
-          Relend.mslice-owed Of.R
-              (Syntax.tyRef (Syntax.named 0) Syntax.mut Of.tyBy) 0 1 (Row.lease (κs .0) (qs .0)),
-        ) (List._∷_ (3, Rows'.sc-here (Row.sInt Syntax.w32)) (List._∷_ (
-          4,
-          Rows'.sc-here
-              (Row.sInt Syntax.w64),
-        ) (List._∷_ (5, Rows'.sc-here (Row.sInt Syntax.w64)) (List._∷_ (6, Rows.arrF (Array'.Array (Referent.rtF (Referent.fInt Syntax.w32)) 3) 256 0)
-            (List._∷_ (7, Rows'.any-gone (Syntax.tyArray (Syntax.tyArray (Syntax.tyInt Syntax.w32) 3) 4096)) (List._∷_ (8, Rows'.any-gone Syntax.tyBool) (List._∷_ (
+              (Syntax.ttcons Syntax.tnil (Syntax.ttcons Syntax.tnil (Syntax.ttcons Syntax.tnil Syntax.ttnil))))))))))))) Syntax.tnil) Syntax.ttnil))),
+        ) (List._∷_ (
+          1,
+          Rows'.whole
+              (Declared'.row Stream.the-type),
+        ) (List._∷_ (2, Relend.mslice-owed Of.R (Syntax.tyRef (Syntax.named 0) Syntax.mut Of.tyBy) 0 1 (Row.lease (κs .0) (qs .0))) (List._∷_
+            (3, Rows'.sc-here (Row.sInt Syntax.w32)) (List._∷_ (4, Rows'.sc-here (Row.sInt Syntax.w64)) (List._∷_ (5, Rows'.sc-here (Row.sInt Syntax.w64)) (List._∷_ (
+              6,
+              Rows.arrF (Array'.Array (Referent.rtF (Referent.fInt Syntax.w32)) 3) 256 0,
+            ) (List._∷_ (
+              7,
+              Rows'.any-gone (Syntax.tyArray (Syntax.tyArray (Syntax.tyInt Syntax.w32) 3)
+                  4096),
+            ) (List._∷_ (8, Rows'.any-gone Syntax.tyBool) (List._∷_ (
               9,
-              Rows'.any-gone (Syntax.tyEnum (List._∷_ 114 (List._∷_ 101 (List._∷_ 102 (List._∷_ 117 (List._∷_ 115 (List._∷_ 97 (List._∷_ 108 (List._∷_ 58 (List._∷_ 58 (List._∷_ 82
-                  (List._∷_ 101 (List._∷_ 102 (List._∷_ 117 (List._∷_ 115 (List._∷_ 97 (List._∷_ 108 List.[])))))))))))))))) (Syntax.ttcons Syntax.tnil (Syntax.ttcons Syntax.tnil
+              Rows'.any-gone (Syntax.tyEnum (List._∷_ 114 (List._∷_ 101 (List._∷_ 102 (List._∷_ 117 (List._∷_ 115
+                  (List._∷_ 97 (List._∷_ 108 (List._∷_ 58 (List._∷_ 58 (List._∷_ 82 (List._∷_ 101 (List._∷_ 102 (List._∷_ 117 (List._∷_ 115 (List._∷_ 97 (List._∷_ 108
+                  List.[])))))))))))))))) (Syntax.ttcons Syntax.tnil (Syntax.ttcons Syntax.tnil (Syntax.ttcons Syntax.tnil (Syntax.ttcons Syntax.tnil (Syntax.ttcons Syntax.tnil
                   (Syntax.ttcons Syntax.tnil (Syntax.ttcons Syntax.tnil (Syntax.ttcons Syntax.tnil (Syntax.ttcons Syntax.tnil (Syntax.ttcons Syntax.tnil (Syntax.ttcons Syntax.tnil
-                  (Syntax.ttcons Syntax.tnil (Syntax.ttcons Syntax.tnil (Syntax.ttcons Syntax.tnil (Syntax.ttcons Syntax.tnil Syntax.ttnil))))))))))))),
-            ) (List._∷_ (
-              10,
+                  (Syntax.ttcons Syntax.tnil Syntax.ttnil))))))))))))),
+            ) (List._∷_ (10, Rows'.any-gone (Syntax.tyArray (Syntax.tyInt Syntax.w32) 3)) (List._∷_ (
+              11,
               Rows'.any-gone
-                  (Syntax.tyArray (Syntax.tyInt Syntax.w32) 3),
-            ) (List._∷_ (11, Rows'.any-gone (Syntax.tyRef Syntax.erased Syntax.mut Of.tyBy)) (List._∷_ (
-              12,
-              Mut.mslice Of.R
-                  (Syntax.tyRef Syntax.erased Syntax.mut Of.tyBy) 1,
-            ) (List._∷_ (
+                  (Syntax.tyRef Syntax.erased Syntax.mut Of.tyBy),
+            ) (List._∷_ (12, Mut.mslice Of.R (Syntax.tyRef Syntax.erased Syntax.mut Of.tyBy) 1) (List._∷_ (
               13,
-              Rows'.any-gone (Syntax.tyRef Syntax.erased Syntax.mut (Syntax.tyArray (Syntax.tyArray (Syntax.tyInt
-                  Syntax.w32) 3) 256)),
+              Rows'.any-gone
+                  (Syntax.tyRef Syntax.erased Syntax.mut (Syntax.tyArray (Syntax.tyArray (Syntax.tyInt Syntax.w32) 3) 256)),
             ) (List._∷_ (
               14,
-              Rows'.any-gone (Syntax.tyStruct (List._∷_ 38 (List._∷_ 91 (List._∷_ 93 List.[]))) (Syntax.tcons (Syntax.tyRef Syntax.erased
-                  Syntax.mut (Syntax.tyArray (Syntax.tyInt Syntax.w32) 3)) (Syntax.tcons (Syntax.tyInt Syntax.w64) Syntax.tnil))),
-            ) (List._∷_ (
-              15,
-              Rows'.any-gone (Syntax.tyArray
-                  (Syntax.tyInt Syntax.w32) 3),
-            ) List.[])))))))))))))))
+              Rows'.any-gone (Syntax.tyStruct (List._∷_
+                  38 (List._∷_ 91 (List._∷_ 93 List.[]))) (Syntax.tcons (Syntax.tyRef Syntax.erased Syntax.mut (Syntax.tyArray (Syntax.tyInt Syntax.w32) 3)) (Syntax.tcons (Syntax.tyInt
+                  Syntax.w64) Syntax.tnil))),
+            ) (List._∷_ (15, Rows'.any-gone (Syntax.tyArray (Syntax.tyInt Syntax.w32) 3)) List.[])))))))))))))))
 
         abbrev g20 : List.List Row.Entry
         g20 = List._∷_ (
@@ -3105,50 +3112,48 @@ module _ (claims· : Claims) where
               100 (List._∷_ 95 (List._∷_ 107 (List._∷_ 104 (List._∷_ 97 (List._∷_ 110 (List._∷_ 110 (List._∷_ 97 (List._∷_ 58 (List._∷_ 58 (List._∷_ 73 (List._∷_ 110 (List._∷_ 115
               (List._∷_ 101 (List._∷_ 114 (List._∷_ 116 (List._∷_ 101 (List._∷_ 100 List.[])))))))))))))))))))))))))) (Syntax.ttcons (Syntax.tcons (Syntax.tyStruct (List._∷_ 103
               (List._∷_ 114 (List._∷_ 101 (List._∷_ 101 (List._∷_ 110 (List._∷_ 119 (List._∷_ 97 (List._∷_ 108 (List._∷_ 100 (List._∷_ 95 (List._∷_ 107 (List._∷_ 104 (List._∷_ 97
-              (List._∷_ 110 (List._∷_ 110 (List._∷_ 97 (List._∷_ 58 (List._∷_ 58 (List._∷_ 83 (List._∷_ 116 (List._∷_ 114 (List._∷_ 101 (List._∷_ 97 (List._∷_ 109
-              List.[])))))))))))))))))))))))) (Syntax.tcons (Syntax.tyStruct (List._∷_ 102 (List._∷_ 114 (List._∷_ 97 (List._∷_ 99 (List._∷_ 116 (List._∷_ 105 (List._∷_ 111 (List._∷_
-              110 (List._∷_ 58 (List._∷_ 58 (List._∷_ 70 (List._∷_ 114 (List._∷_ 97 (List._∷_ 99 (List._∷_ 116 (List._∷_ 105 (List._∷_ 111 (List._∷_ 110 List.[]))))))))))))))))))
-              (Syntax.tcons (Syntax.tyInt Syntax.w32) (Syntax.tcons (Syntax.tyInt Syntax.w32) Syntax.tnil))) (Syntax.tcons (Syntax.tyInt Syntax.w32) (Syntax.tcons (Syntax.tyInt
-              Syntax.w32) Syntax.tnil)))) Syntax.tnil) (Syntax.ttcons (Syntax.tcons (Syntax.tyEnum (List._∷_ 114 (List._∷_ 101 (List._∷_ 102 (List._∷_ 117 (List._∷_ 115 (List._∷_ 97
-              (List._∷_ 108 (List._∷_ 58 (List._∷_ 58 (List._∷_ 82 (List._∷_ 101 (List._∷_ 102 (List._∷_ 117 (List._∷_ 115 (List._∷_ 97 (List._∷_ 108 List.[]))))))))))))))))
+              (List._∷_ 110 (List._∷_ 110 (List._∷_ 97 (List._∷_ 95 (List._∷_ 115 (List._∷_ 116 (List._∷_ 101 (List._∷_ 112 (List._∷_ 115 (List._∷_ 58 (List._∷_ 58 (List._∷_ 83
+              (List._∷_ 116 (List._∷_ 114 (List._∷_ 101 (List._∷_ 97 (List._∷_ 109 List.[])))))))))))))))))))))))))))))) (Syntax.tcons (Syntax.tyStruct (List._∷_ 102 (List._∷_ 114
+              (List._∷_ 97 (List._∷_ 99 (List._∷_ 116 (List._∷_ 105 (List._∷_ 111 (List._∷_ 110 (List._∷_ 58 (List._∷_ 58 (List._∷_ 70 (List._∷_ 114 (List._∷_ 97 (List._∷_ 99
+              (List._∷_ 116 (List._∷_ 105 (List._∷_ 111 (List._∷_ 110 List.[])))))))))))))))))) (Syntax.tcons (Syntax.tyInt Syntax.w32) (Syntax.tcons (Syntax.tyInt Syntax.w32)
+              Syntax.tnil))) (Syntax.tcons (Syntax.tyInt Syntax.w32) (Syntax.tcons (Syntax.tyInt Syntax.w32) Syntax.tnil)))) Syntax.tnil) (Syntax.ttcons (Syntax.tcons (Syntax.tyEnum
+              (List._∷_ 114 (List._∷_ 101 (List._∷_ 102 (List._∷_ 117 (List._∷_ 115 (List._∷_ 97 (List._∷_ 108 (List._∷_ 58 (List._∷_ 58 (List._∷_ 82 (List._∷_ 101 (List._∷_ 102
+              (List._∷_ 117 (List._∷_ 115 (List._∷_ 97 (List._∷_ 108 List.[])))))))))))))))) (Syntax.ttcons Syntax.tnil (Syntax.ttcons Syntax.tnil (Syntax.ttcons Syntax.tnil
               (Syntax.ttcons Syntax.tnil (Syntax.ttcons Syntax.tnil (Syntax.ttcons Syntax.tnil (Syntax.ttcons Syntax.tnil (Syntax.ttcons Syntax.tnil (Syntax.ttcons Syntax.tnil
-              (Syntax.ttcons Syntax.tnil (Syntax.ttcons Syntax.tnil (Syntax.ttcons Syntax.tnil (Syntax.ttcons Syntax.tnil (Syntax.ttcons Syntax.tnil (Syntax.ttcons Syntax.tnil
-              Syntax.ttnil))))))))))))) Syntax.tnil) Syntax.ttnil))),
-        ) (List._∷_ (1, Rows'.whole (Declared'.row Stream.the-type)) (List._∷_ (
-          2,
-          Relend.mslice-owed Of.R
-              (Syntax.tyRef (Syntax.named 0) Syntax.mut Of.tyBy) 0 1 (Row.lease (κs .0) (qs .0)),
-        ) (List._∷_ (3, Rows'.sc-here (Row.sInt Syntax.w32)) (List._∷_ (
-          4,
-          Rows'.sc-here
-              (Row.sInt Syntax.w64),
-        ) (List._∷_ (5, Rows'.sc-here (Row.sInt Syntax.w64)) (List._∷_ (
-          6,
-          Rows.arr-owed (Array'.Array (Referent.rtF (Referent.fInt Syntax.w32)) 3) 256
-              2,
-        ) (List._∷_ (7, Rows'.any-gone (Syntax.tyArray (Syntax.tyArray (Syntax.tyInt Syntax.w32) 3) 4096)) (List._∷_ (8, Rows'.any-gone Syntax.tyBool) (List._∷_ (
-          9,
-          Rows'.any-gone (Syntax.tyEnum (List._∷_ 114 (List._∷_ 101 (List._∷_ 102 (List._∷_ 117 (List._∷_ 115 (List._∷_ 97 (List._∷_ 108 (List._∷_ 58 (List._∷_ 58 (List._∷_ 82
-              (List._∷_ 101 (List._∷_ 102 (List._∷_ 117 (List._∷_ 115 (List._∷_ 97 (List._∷_ 108 List.[])))))))))))))))) (Syntax.ttcons Syntax.tnil (Syntax.ttcons Syntax.tnil
-              (Syntax.ttcons Syntax.tnil (Syntax.ttcons Syntax.tnil (Syntax.ttcons Syntax.tnil (Syntax.ttcons Syntax.tnil (Syntax.ttcons Syntax.tnil (Syntax.ttcons Syntax.tnil
-              (Syntax.ttcons Syntax.tnil (Syntax.ttcons Syntax.tnil (Syntax.ttcons Syntax.tnil (Syntax.ttcons Syntax.tnil Syntax.ttnil))))))))))))),
+              (Syntax.ttcons Syntax.tnil (Syntax.ttcons Syntax.tnil (Syntax.ttcons Syntax.tnil Syntax.ttnil))))))))))))) Syntax.tnil) Syntax.ttnil))),
         ) (List._∷_ (
-          10,
-          Rows'.any-gone
-              (Syntax.tyArray (Syntax.tyInt Syntax.w32) 3),
-        ) (List._∷_ (11, Rows'.any-gone (Syntax.tyRef Syntax.erased Syntax.mut Of.tyBy)) (List._∷_ (
-          12,
-          Mut.mslice Of.R
-              (Syntax.tyRef Syntax.erased Syntax.mut Of.tyBy) 1,
-        ) (List._∷_ (
-          13,
-          Relend.msptr (Array'.Array (Referent.rtF (Referent.fInt Syntax.w32)) 3) (Syntax.tyRef Syntax.erased
-              Syntax.mut (Syntax.tyArray (Syntax.tyArray (Syntax.tyInt Syntax.w32) 3) 256)) 2,
-        ) (List._∷_ (
-          14,
-          Rows'.any-gone (Syntax.tyStruct (List._∷_ 38 (List._∷_ 91 (List._∷_
-              93 List.[]))) (Syntax.tcons (Syntax.tyRef Syntax.erased Syntax.mut (Syntax.tyArray (Syntax.tyInt Syntax.w32) 3)) (Syntax.tcons (Syntax.tyInt Syntax.w64) Syntax.tnil))),
-        ) (List._∷_ (15, Rows'.any-gone (Syntax.tyArray (Syntax.tyInt Syntax.w32) 3)) List.[])))))))))))))))
+          1,
+          Rows'.whole
+              (Declared'.row Stream.the-type),
+        ) (List._∷_ (2, Relend.mslice-owed Of.R (Syntax.tyRef (Syntax.named 0) Syntax.mut Of.tyBy) 0 1 (Row.lease (κs .0) (qs .0))) (List._∷_
+            (3, Rows'.sc-here (Row.sInt Syntax.w32)) (List._∷_ (4, Rows'.sc-here (Row.sInt Syntax.w64)) (List._∷_ (5, Rows'.sc-here (Row.sInt Syntax.w64)) (List._∷_ (
+              6,
+              Rows.arr-owed (Array'.Array (Referent.rtF (Referent.fInt Syntax.w32)) 3) 256 2,
+            ) (List._∷_ (
+              7,
+              Rows'.any-gone (Syntax.tyArray (Syntax.tyArray (Syntax.tyInt
+                  Syntax.w32) 3) 4096),
+            ) (List._∷_ (8, Rows'.any-gone Syntax.tyBool) (List._∷_ (
+              9,
+              Rows'.any-gone (Syntax.tyEnum (List._∷_ 114 (List._∷_ 101 (List._∷_ 102 (List._∷_ 117
+                  (List._∷_ 115 (List._∷_ 97 (List._∷_ 108 (List._∷_ 58 (List._∷_ 58 (List._∷_ 82 (List._∷_ 101 (List._∷_ 102 (List._∷_ 117 (List._∷_ 115 (List._∷_ 97 (List._∷_ 108
+                  List.[])))))))))))))))) (Syntax.ttcons Syntax.tnil (Syntax.ttcons Syntax.tnil (Syntax.ttcons Syntax.tnil (Syntax.ttcons Syntax.tnil (Syntax.ttcons Syntax.tnil
+                  (Syntax.ttcons Syntax.tnil (Syntax.ttcons Syntax.tnil (Syntax.ttcons Syntax.tnil (Syntax.ttcons Syntax.tnil (Syntax.ttcons Syntax.tnil (Syntax.ttcons Syntax.tnil
+                  (Syntax.ttcons Syntax.tnil Syntax.ttnil))))))))))))),
+            ) (List._∷_ (10, Rows'.any-gone (Syntax.tyArray (Syntax.tyInt Syntax.w32) 3)) (List._∷_ (
+              11,
+              Rows'.any-gone
+                  (Syntax.tyRef Syntax.erased Syntax.mut Of.tyBy),
+            ) (List._∷_ (12, Mut.mslice Of.R (Syntax.tyRef Syntax.erased Syntax.mut Of.tyBy) 1) (List._∷_ (
+              13,
+              Relend.msptr
+                  (Array'.Array (Referent.rtF (Referent.fInt Syntax.w32)) 3) (Syntax.tyRef Syntax.erased Syntax.mut (Syntax.tyArray (Syntax.tyArray (Syntax.tyInt Syntax.w32) 3) 256)) 2,
+            ) (List._∷_ (
+              14,
+              Rows'.any-gone (Syntax.tyStruct (List._∷_ 38 (List._∷_ 91 (List._∷_ 93 List.[]))) (Syntax.tcons (Syntax.tyRef Syntax.erased Syntax.mut (Syntax.tyArray
+                  (Syntax.tyInt Syntax.w32) 3)) (Syntax.tcons (Syntax.tyInt Syntax.w64) Syntax.tnil))),
+            ) (List._∷_ (15, Rows'.any-gone (Syntax.tyArray (Syntax.tyInt Syntax.w32) 3))
+            List.[])))))))))))))))
 
         abbrev g21 : List.List Row.Entry
         g21 = List._∷_ (
@@ -3157,50 +3162,51 @@ module _ (claims· : Claims) where
               100 (List._∷_ 95 (List._∷_ 107 (List._∷_ 104 (List._∷_ 97 (List._∷_ 110 (List._∷_ 110 (List._∷_ 97 (List._∷_ 58 (List._∷_ 58 (List._∷_ 73 (List._∷_ 110 (List._∷_ 115
               (List._∷_ 101 (List._∷_ 114 (List._∷_ 116 (List._∷_ 101 (List._∷_ 100 List.[])))))))))))))))))))))))))) (Syntax.ttcons (Syntax.tcons (Syntax.tyStruct (List._∷_ 103
               (List._∷_ 114 (List._∷_ 101 (List._∷_ 101 (List._∷_ 110 (List._∷_ 119 (List._∷_ 97 (List._∷_ 108 (List._∷_ 100 (List._∷_ 95 (List._∷_ 107 (List._∷_ 104 (List._∷_ 97
-              (List._∷_ 110 (List._∷_ 110 (List._∷_ 97 (List._∷_ 58 (List._∷_ 58 (List._∷_ 83 (List._∷_ 116 (List._∷_ 114 (List._∷_ 101 (List._∷_ 97 (List._∷_ 109
-              List.[])))))))))))))))))))))))) (Syntax.tcons (Syntax.tyStruct (List._∷_ 102 (List._∷_ 114 (List._∷_ 97 (List._∷_ 99 (List._∷_ 116 (List._∷_ 105 (List._∷_ 111 (List._∷_
-              110 (List._∷_ 58 (List._∷_ 58 (List._∷_ 70 (List._∷_ 114 (List._∷_ 97 (List._∷_ 99 (List._∷_ 116 (List._∷_ 105 (List._∷_ 111 (List._∷_ 110 List.[]))))))))))))))))))
-              (Syntax.tcons (Syntax.tyInt Syntax.w32) (Syntax.tcons (Syntax.tyInt Syntax.w32) Syntax.tnil))) (Syntax.tcons (Syntax.tyInt Syntax.w32) (Syntax.tcons (Syntax.tyInt
-              Syntax.w32) Syntax.tnil)))) Syntax.tnil) (Syntax.ttcons (Syntax.tcons (Syntax.tyEnum (List._∷_ 114 (List._∷_ 101 (List._∷_ 102 (List._∷_ 117 (List._∷_ 115 (List._∷_ 97
-              (List._∷_ 108 (List._∷_ 58 (List._∷_ 58 (List._∷_ 82 (List._∷_ 101 (List._∷_ 102 (List._∷_ 117 (List._∷_ 115 (List._∷_ 97 (List._∷_ 108 List.[]))))))))))))))))
+              (List._∷_ 110 (List._∷_ 110 (List._∷_ 97 (List._∷_ 95 (List._∷_ 115 (List._∷_ 116 (List._∷_ 101 (List._∷_ 112 (List._∷_ 115 (List._∷_ 58 (List._∷_ 58 (List._∷_ 83
+              (List._∷_ 116 (List._∷_ 114 (List._∷_ 101 (List._∷_ 97 (List._∷_ 109 List.[])))))))))))))))))))))))))))))) (Syntax.tcons (Syntax.tyStruct (List._∷_ 102 (List._∷_ 114
+              (List._∷_ 97 (List._∷_ 99 (List._∷_ 116 (List._∷_ 105 (List._∷_ 111 (List._∷_ 110 (List._∷_ 58 (List._∷_ 58 (List._∷_ 70 (List._∷_ 114 (List._∷_ 97 (List._∷_ 99
+              (List._∷_ 116 (List._∷_ 105 (List._∷_ 111 (List._∷_ 110 List.[])))))))))))))))))) (Syntax.tcons (Syntax.tyInt Syntax.w32) (Syntax.tcons (Syntax.tyInt Syntax.w32)
+              Syntax.tnil))) (Syntax.tcons (Syntax.tyInt Syntax.w32) (Syntax.tcons (Syntax.tyInt Syntax.w32) Syntax.tnil)))) Syntax.tnil) (Syntax.ttcons (Syntax.tcons (Syntax.tyEnum
+              (List._∷_ 114 (List._∷_ 101 (List._∷_ 102 (List._∷_ 117 (List._∷_ 115 (List._∷_ 97 (List._∷_ 108 (List._∷_ 58 (List._∷_ 58 (List._∷_ 82 (List._∷_ 101 (List._∷_ 102
+              (List._∷_ 117 (List._∷_ 115 (List._∷_ 97 (List._∷_ 108 List.[])))))))))))))))) (Syntax.ttcons Syntax.tnil (Syntax.ttcons Syntax.tnil (Syntax.ttcons Syntax.tnil
               (Syntax.ttcons Syntax.tnil (Syntax.ttcons Syntax.tnil (Syntax.ttcons Syntax.tnil (Syntax.ttcons Syntax.tnil (Syntax.ttcons Syntax.tnil (Syntax.ttcons Syntax.tnil
-              (Syntax.ttcons Syntax.tnil (Syntax.ttcons Syntax.tnil (Syntax.ttcons Syntax.tnil (Syntax.ttcons Syntax.tnil (Syntax.ttcons Syntax.tnil (Syntax.ttcons Syntax.tnil
-              Syntax.ttnil))))))))))))) Syntax.tnil) Syntax.ttnil))),
-        ) (List._∷_ (1, Rows'.whole (Declared'.row Stream.the-type)) (List._∷_ (
-          2,
-          Relend.mslice-owed Of.R
-              (Syntax.tyRef (Syntax.named 0) Syntax.mut Of.tyBy) 0 1 (Row.lease (κs .0) (qs .0)),
-        ) (List._∷_ (3, Rows'.sc-here (Row.sInt Syntax.w32)) (List._∷_ (
-          4,
-          Rows'.sc-here
-              (Row.sInt Syntax.w64),
-        ) (List._∷_ (5, Rows'.sc-here (Row.sInt Syntax.w64)) (List._∷_ (
-          6,
-          Rows.arr-owed (Array'.Array (Referent.rtF (Referent.fInt Syntax.w32)) 3) 256
-              2,
-        ) (List._∷_ (7, Rows'.any-gone (Syntax.tyArray (Syntax.tyArray (Syntax.tyInt Syntax.w32) 3) 4096)) (List._∷_ (8, Rows'.any-gone Syntax.tyBool) (List._∷_ (
-          9,
-          Rows'.any-gone (Syntax.tyEnum (List._∷_ 114 (List._∷_ 101 (List._∷_ 102 (List._∷_ 117 (List._∷_ 115 (List._∷_ 97 (List._∷_ 108 (List._∷_ 58 (List._∷_ 58 (List._∷_ 82
-              (List._∷_ 101 (List._∷_ 102 (List._∷_ 117 (List._∷_ 115 (List._∷_ 97 (List._∷_ 108 List.[])))))))))))))))) (Syntax.ttcons Syntax.tnil (Syntax.ttcons Syntax.tnil
-              (Syntax.ttcons Syntax.tnil (Syntax.ttcons Syntax.tnil (Syntax.ttcons Syntax.tnil (Syntax.ttcons Syntax.tnil (Syntax.ttcons Syntax.tnil (Syntax.ttcons Syntax.tnil
-              (Syntax.ttcons Syntax.tnil (Syntax.ttcons Syntax.tnil (Syntax.ttcons Syntax.tnil (Syntax.ttcons Syntax.tnil Syntax.ttnil))))))))))))),
+              (Syntax.ttcons Syntax.tnil (Syntax.ttcons Syntax.tnil (Syntax.ttcons Syntax.tnil Syntax.ttnil))))))))))))) Syntax.tnil) Syntax.ttnil))),
         ) (List._∷_ (
-          10,
-          Rows'.any-gone
-              (Syntax.tyArray (Syntax.tyInt Syntax.w32) 3),
-        ) (List._∷_ (11, Rows'.any-gone (Syntax.tyRef Syntax.erased Syntax.mut Of.tyBy)) (List._∷_ (
-          12,
-          Mut.mslice Of.R
-              (Syntax.tyRef Syntax.erased Syntax.mut Of.tyBy) 1,
-        ) (List._∷_ (
-          13,
-          Rows'.any-gone (Syntax.tyRef Syntax.erased Syntax.mut (Syntax.tyArray (Syntax.tyArray (Syntax.tyInt
-              Syntax.w32) 3) 256)),
-        ) (List._∷_ (
-          14,
-          Mut.mslice (Array'.Array (Referent.rtF (Referent.fInt Syntax.w32)) 3) (Syntax.tyRef Syntax.erased Syntax.mut (Syntax.tyArray
-              (Syntax.tyInt Syntax.w32) 3)) 2,
-        ) (List._∷_ (15, Rows'.any-gone (Syntax.tyArray (Syntax.tyInt Syntax.w32) 3)) List.[])))))))))))))))
+          1,
+          Rows'.whole
+              (Declared'.row Stream.the-type),
+        ) (List._∷_ (2, Relend.mslice-owed Of.R (Syntax.tyRef (Syntax.named 0) Syntax.mut Of.tyBy) 0 1 (Row.lease (κs .0) (qs .0))) (List._∷_
+            (3, Rows'.sc-here (Row.sInt Syntax.w32)) (List._∷_ (4, Rows'.sc-here (Row.sInt Syntax.w64)) (List._∷_ (5, Rows'.sc-here (Row.sInt Syntax.w64)) (List._∷_ (
+              6,
+              Rows.arr-owed (Array'.Array (Referent.rtF (Referent.fInt Syntax.w32)) 3) 256 2,
+            ) (List._∷_ (
+              7,
+              Rows'.any-gone (Syntax.tyArray (Syntax.tyArray (Syntax.tyInt
+                  Syntax.w32) 3) 4096),
+            ) (List._∷_ (8, Rows'.any-gone Syntax.tyBool) (List._∷_ (
+              9,
+              Rows'.any-gone (Syntax.tyEnum (List._∷_ 114 (List._∷_ 101 (List._∷_ 102 (List._∷_ 117
+                  (List._∷_ 115 (List._∷_ 97 (List._∷_ 108 (List._∷_ 58 (List._∷_ 58 (List._∷_ 82 (List._∷_ 101 (List._∷_ 102 (List._∷_ 117 (List._∷_ 115 (List._∷_ 97 (List._∷_ 108
+                  List.[])))))))))))))))) (Syntax.ttcons Syntax.tnil (Syntax.ttcons Syntax.tnil (Syntax.ttcons Syntax.tnil (Syntax.ttcons Syntax.tnil (Syntax.ttcons Syntax.tnil
+                  (Syntax.ttcons Syntax.tnil (Syntax.ttcons Syntax.tnil (Syntax.ttcons Syntax.tnil (Syntax.ttcons Syntax.tnil (Syntax.ttcons Syntax.tnil (Syntax.ttcons Syntax.tnil
+                  (Syntax.ttcons Syntax.tnil Syntax.ttnil))))))))))))),
+            ) (List._∷_ (10, Rows'.any-gone (Syntax.tyArray (Syntax.tyInt Syntax.w32) 3)) (List._∷_ (
+              11,
+              Rows'.any-gone
+                  (Syntax.tyRef Syntax.erased Syntax.mut Of.tyBy),
+            ) (List._∷_ (12, Mut.mslice Of.R (Syntax.tyRef Syntax.erased Syntax.mut Of.tyBy) 1) (List._∷_ (
+              13,
+              Rows'.any-gone
+                  (Syntax.tyRef Syntax.erased Syntax.mut (Syntax.tyArray (Syntax.tyArray (Syntax.tyInt Syntax.w32) 3) 256)),
+            ) (List._∷_ (
+              14,
+              Mut.mslice (Array'.Array (Referent.rtF
+                  (Referent.fInt Syntax.w32)) 3) (Syntax.tyRef Syntax.erased Syntax.mut (Syntax.tyArray (Syntax.tyInt Syntax.w32) 3)) 2,
+            ) (List._∷_ (
+              15,
+              Rows'.any-gone (Syntax.tyArray
+                  (Syntax.tyInt Syntax.w32) 3),
+            ) List.[])))))))))))))))
 
         abbrev g22 : List.List Row.Entry
         g22 = List._∷_ (0, Rows'.whole (Declared.row Inserted.the-type)) (List._∷_ (1, Rows'.whole (Declared'.row Stream.the-type)) (List._∷_ (
@@ -3244,39 +3250,43 @@ module _ (claims· : Claims) where
           1,
           Rows'.any-gone (Syntax.tyStruct (List._∷_ 103 (List._∷_ 114 (List._∷_ 101 (List._∷_ 101
               (List._∷_ 110 (List._∷_ 119 (List._∷_ 97 (List._∷_ 108 (List._∷_ 100 (List._∷_ 95 (List._∷_ 107 (List._∷_ 104 (List._∷_ 97 (List._∷_ 110 (List._∷_ 110 (List._∷_ 97
-              (List._∷_ 58 (List._∷_ 58 (List._∷_ 83 (List._∷_ 116 (List._∷_ 114 (List._∷_ 101 (List._∷_ 97 (List._∷_ 109 List.[])))))))))))))))))))))))) (Syntax.tcons
-              (Syntax.tyStruct (List._∷_ 102 (List._∷_ 114 (List._∷_ 97 (List._∷_ 99 (List._∷_ 116 (List._∷_ 105 (List._∷_ 111 (List._∷_ 110 (List._∷_ 58 (List._∷_ 58 (List._∷_ 70
-              (List._∷_ 114 (List._∷_ 97 (List._∷_ 99 (List._∷_ 116 (List._∷_ 105 (List._∷_ 111 (List._∷_ 110 List.[])))))))))))))))))) (Syntax.tcons (Syntax.tyInt Syntax.w32)
-              (Syntax.tcons (Syntax.tyInt Syntax.w32) Syntax.tnil))) (Syntax.tcons (Syntax.tyInt Syntax.w32) (Syntax.tcons (Syntax.tyInt Syntax.w32) Syntax.tnil)))),
+              (List._∷_ 95 (List._∷_ 115 (List._∷_ 116 (List._∷_ 101 (List._∷_ 112 (List._∷_ 115 (List._∷_ 58 (List._∷_ 58 (List._∷_ 83 (List._∷_ 116 (List._∷_ 114 (List._∷_ 101
+              (List._∷_ 97 (List._∷_ 109 List.[])))))))))))))))))))))))))))))) (Syntax.tcons (Syntax.tyStruct (List._∷_ 102 (List._∷_ 114 (List._∷_ 97 (List._∷_ 99 (List._∷_ 116
+              (List._∷_ 105 (List._∷_ 111 (List._∷_ 110 (List._∷_ 58 (List._∷_ 58 (List._∷_ 70 (List._∷_ 114 (List._∷_ 97 (List._∷_ 99 (List._∷_ 116 (List._∷_ 105 (List._∷_ 111
+              (List._∷_ 110 List.[])))))))))))))))))) (Syntax.tcons (Syntax.tyInt Syntax.w32) (Syntax.tcons (Syntax.tyInt Syntax.w32) Syntax.tnil))) (Syntax.tcons (Syntax.tyInt
+              Syntax.w32) (Syntax.tcons (Syntax.tyInt Syntax.w32) Syntax.tnil)))),
         ) (List._∷_ (
           2,
-          Relend.mslice-owed Of.R (Syntax.tyRef (Syntax.named 0) Syntax.mut Of.tyBy) 0 1 (Row.lease (κs .0) (qs .0)),
-        ) (List._∷_ (3, Rows'.sc-here (Row.sInt Syntax.w32))
-            (List._∷_ (4, Rows'.sc-here (Row.sInt Syntax.w64)) (List._∷_ (5, Rows'.sc-here (Row.sInt Syntax.w64)) (List._∷_ (
-              6,
-              Rows.arr-owed (Array'.Array (Referent.rtF
-                  (Referent.fInt Syntax.w32)) 3) 256 2,
-            ) (List._∷_ (7, Rows'.any-gone (Syntax.tyArray (Syntax.tyArray (Syntax.tyInt Syntax.w32) 3) 4096)) (List._∷_ (
-              8,
-              Rows'.any-gone
-                  Syntax.tyBool,
-            ) (List._∷_ (
-              9,
-              Rows'.any-gone (Syntax.tyEnum (List._∷_ 114 (List._∷_ 101 (List._∷_ 102 (List._∷_ 117 (List._∷_ 115 (List._∷_ 97 (List._∷_ 108 (List._∷_
-                  58 (List._∷_ 58 (List._∷_ 82 (List._∷_ 101 (List._∷_ 102 (List._∷_ 117 (List._∷_ 115 (List._∷_ 97 (List._∷_ 108 List.[])))))))))))))))) (Syntax.ttcons Syntax.tnil
-                  (Syntax.ttcons Syntax.tnil (Syntax.ttcons Syntax.tnil (Syntax.ttcons Syntax.tnil (Syntax.ttcons Syntax.tnil (Syntax.ttcons Syntax.tnil (Syntax.ttcons Syntax.tnil
-                  (Syntax.ttcons Syntax.tnil (Syntax.ttcons Syntax.tnil (Syntax.ttcons Syntax.tnil (Syntax.ttcons Syntax.tnil (Syntax.ttcons Syntax.tnil Syntax.ttnil))))))))))))),
-            )
-            (List._∷_ (10, Rows'.any-gone (Syntax.tyArray (Syntax.tyInt Syntax.w32) 3)) (List._∷_ (11, Rows'.any-gone (Syntax.tyRef Syntax.erased Syntax.mut Of.tyBy)) (List._∷_
-            (12, Mut.msleft Of.R (Syntax.tyRef Syntax.erased Syntax.mut Of.tyBy)) (List._∷_ (
+          Relend.mslice-owed Of.R (Syntax.tyRef (Syntax.named 0) Syntax.mut Of.tyBy) 0 1
+              (Row.lease (κs .0) (qs .0)),
+        ) (List._∷_ (3, Rows'.sc-here (Row.sInt Syntax.w32)) (List._∷_ (4, Rows'.sc-here (Row.sInt Syntax.w64)) (List._∷_ (
+          5,
+          Rows'.sc-here
+              (Row.sInt Syntax.w64),
+        ) (List._∷_ (6, Rows.arr-owed (Array'.Array (Referent.rtF (Referent.fInt Syntax.w32)) 3) 256 2) (List._∷_ (
+          7,
+          Rows'.any-gone (Syntax.tyArray
+              (Syntax.tyArray (Syntax.tyInt Syntax.w32) 3) 4096),
+        ) (List._∷_ (8, Rows'.any-gone Syntax.tyBool) (List._∷_ (
+          9,
+          Rows'.any-gone (Syntax.tyEnum (List._∷_ 114 (List._∷_
+              101 (List._∷_ 102 (List._∷_ 117 (List._∷_ 115 (List._∷_ 97 (List._∷_ 108 (List._∷_ 58 (List._∷_ 58 (List._∷_ 82 (List._∷_ 101 (List._∷_ 102 (List._∷_ 117 (List._∷_ 115
+              (List._∷_ 97 (List._∷_ 108 List.[])))))))))))))))) (Syntax.ttcons Syntax.tnil (Syntax.ttcons Syntax.tnil (Syntax.ttcons Syntax.tnil (Syntax.ttcons Syntax.tnil
+              (Syntax.ttcons Syntax.tnil (Syntax.ttcons Syntax.tnil (Syntax.ttcons Syntax.tnil (Syntax.ttcons Syntax.tnil (Syntax.ttcons Syntax.tnil (Syntax.ttcons Syntax.tnil
+              (Syntax.ttcons Syntax.tnil (Syntax.ttcons Syntax.tnil Syntax.ttnil))))))))))))),
+        ) (List._∷_ (10, Rows'.any-gone (Syntax.tyArray (Syntax.tyInt Syntax.w32) 3)) (List._∷_
+            (11, Rows'.any-gone (Syntax.tyRef Syntax.erased Syntax.mut Of.tyBy)) (List._∷_ (12, Mut.msleft Of.R (Syntax.tyRef Syntax.erased Syntax.mut Of.tyBy)) (List._∷_ (
               13,
-              Rows'.any-gone (Syntax.tyRef Syntax.erased Syntax.mut (Syntax.tyArray
-                  (Syntax.tyArray (Syntax.tyInt Syntax.w32) 3) 256)),
+              Rows'.any-gone (Syntax.tyRef Syntax.erased Syntax.mut (Syntax.tyArray (Syntax.tyArray (Syntax.tyInt Syntax.w32) 3) 256)),
             ) (List._∷_ (
               14,
-              Mut.msleft (Array'.Array (Referent.rtF (Referent.fInt Syntax.w32)) 3) (Syntax.tyRef Syntax.erased
-                  Syntax.mut (Syntax.tyArray (Syntax.tyInt Syntax.w32) 3)),
-            ) (List._∷_ (15, Rows'.any-gone (Syntax.tyArray (Syntax.tyInt Syntax.w32) 3)) List.[])))))))))))))))
+              Mut.msleft (Array'.Array
+                  (Referent.rtF (Referent.fInt Syntax.w32)) 3) (Syntax.tyRef Syntax.erased Syntax.mut (Syntax.tyArray (Syntax.tyInt Syntax.w32) 3)),
+            ) (List._∷_ (
+              15,
+              Rows'.any-gone
+                  (Syntax.tyArray (Syntax.tyInt Syntax.w32) 3),
+            ) List.[])))))))))))))))
 
         abbrev g34 : List.List Row.Entry
         g34 = List._∷_ (
@@ -3285,48 +3295,52 @@ module _ (claims· : Claims) where
               100 (List._∷_ 95 (List._∷_ 107 (List._∷_ 104 (List._∷_ 97 (List._∷_ 110 (List._∷_ 110 (List._∷_ 97 (List._∷_ 58 (List._∷_ 58 (List._∷_ 73 (List._∷_ 110 (List._∷_ 115
               (List._∷_ 101 (List._∷_ 114 (List._∷_ 116 (List._∷_ 101 (List._∷_ 100 List.[])))))))))))))))))))))))))) (Syntax.ttcons (Syntax.tcons (Syntax.tyStruct (List._∷_ 103
               (List._∷_ 114 (List._∷_ 101 (List._∷_ 101 (List._∷_ 110 (List._∷_ 119 (List._∷_ 97 (List._∷_ 108 (List._∷_ 100 (List._∷_ 95 (List._∷_ 107 (List._∷_ 104 (List._∷_ 97
-              (List._∷_ 110 (List._∷_ 110 (List._∷_ 97 (List._∷_ 58 (List._∷_ 58 (List._∷_ 83 (List._∷_ 116 (List._∷_ 114 (List._∷_ 101 (List._∷_ 97 (List._∷_ 109
-              List.[])))))))))))))))))))))))) (Syntax.tcons (Syntax.tyStruct (List._∷_ 102 (List._∷_ 114 (List._∷_ 97 (List._∷_ 99 (List._∷_ 116 (List._∷_ 105 (List._∷_ 111 (List._∷_
-              110 (List._∷_ 58 (List._∷_ 58 (List._∷_ 70 (List._∷_ 114 (List._∷_ 97 (List._∷_ 99 (List._∷_ 116 (List._∷_ 105 (List._∷_ 111 (List._∷_ 110 List.[]))))))))))))))))))
-              (Syntax.tcons (Syntax.tyInt Syntax.w32) (Syntax.tcons (Syntax.tyInt Syntax.w32) Syntax.tnil))) (Syntax.tcons (Syntax.tyInt Syntax.w32) (Syntax.tcons (Syntax.tyInt
-              Syntax.w32) Syntax.tnil)))) Syntax.tnil) (Syntax.ttcons (Syntax.tcons (Syntax.tyEnum (List._∷_ 114 (List._∷_ 101 (List._∷_ 102 (List._∷_ 117 (List._∷_ 115 (List._∷_ 97
-              (List._∷_ 108 (List._∷_ 58 (List._∷_ 58 (List._∷_ 82 (List._∷_ 101 (List._∷_ 102 (List._∷_ 117 (List._∷_ 115 (List._∷_ 97 (List._∷_ 108 List.[]))))))))))))))))
+              (List._∷_ 110 (List._∷_ 110 (List._∷_ 97 (List._∷_ 95 (List._∷_ 115 (List._∷_ 116 (List._∷_ 101 (List._∷_ 112 (List._∷_ 115 (List._∷_ 58 (List._∷_ 58 (List._∷_ 83
+              (List._∷_ 116 (List._∷_ 114 (List._∷_ 101 (List._∷_ 97 (List._∷_ 109 List.[])))))))))))))))))))))))))))))) (Syntax.tcons (Syntax.tyStruct (List._∷_ 102 (List._∷_ 114
+              (List._∷_ 97 (List._∷_ 99 (List._∷_ 116 (List._∷_ 105 (List._∷_ 111 (List._∷_ 110 (List._∷_ 58 (List._∷_ 58 (List._∷_ 70 (List._∷_ 114 (List._∷_ 97 (List._∷_ 99
+              (List._∷_ 116 (List._∷_ 105 (List._∷_ 111 (List._∷_ 110 List.[])))))))))))))))))) (Syntax.tcons (Syntax.tyInt Syntax.w32) (Syntax.tcons (Syntax.tyInt Syntax.w32)
+              Syntax.tnil))) (Syntax.tcons (Syntax.tyInt Syntax.w32) (Syntax.tcons (Syntax.tyInt Syntax.w32) Syntax.tnil)))) Syntax.tnil) (Syntax.ttcons (Syntax.tcons (Syntax.tyEnum
+              (List._∷_ 114 (List._∷_ 101 (List._∷_ 102 (List._∷_ 117 (List._∷_ 115 (List._∷_ 97 (List._∷_ 108 (List._∷_ 58 (List._∷_ 58 (List._∷_ 82 (List._∷_ 101 (List._∷_ 102
+              (List._∷_ 117 (List._∷_ 115 (List._∷_ 97 (List._∷_ 108 List.[])))))))))))))))) (Syntax.ttcons Syntax.tnil (Syntax.ttcons Syntax.tnil (Syntax.ttcons Syntax.tnil
               (Syntax.ttcons Syntax.tnil (Syntax.ttcons Syntax.tnil (Syntax.ttcons Syntax.tnil (Syntax.ttcons Syntax.tnil (Syntax.ttcons Syntax.tnil (Syntax.ttcons Syntax.tnil
-              (Syntax.ttcons Syntax.tnil (Syntax.ttcons Syntax.tnil (Syntax.ttcons Syntax.tnil (Syntax.ttcons Syntax.tnil (Syntax.ttcons Syntax.tnil (Syntax.ttcons Syntax.tnil
-              Syntax.ttnil))))))))))))) Syntax.tnil) Syntax.ttnil))),
-        ) (List._∷_ (1, Rows'.whole (Declared'.row Stream.the-type)) (List._∷_ (
-          2,
-          Relend.mslice-owed Of.R
-              (Syntax.tyRef (Syntax.named 0) Syntax.mut Of.tyBy) 0 3 (Row.lease (κs .0) (qs .0)),
-        ) (List._∷_ (3, Rows'.sc-here (Row.sInt Syntax.w32)) (List._∷_ (
-          4,
-          Rows'.sc-here
-              (Row.sInt Syntax.w64),
-        ) (List._∷_ (5, Rows'.sc-here (Row.sInt Syntax.w64)) (List._∷_ (
-          6,
-          Rows'.any-gone (Syntax.tyArray (Syntax.tyArray (Syntax.tyInt Syntax.w32) 3)
-              256),
-        ) (List._∷_ (7, Rows.arrF (Array'.Array (Referent.rtF (Referent.fInt Syntax.w32)) 3) 4096 0) (List._∷_ (8, Rows'.any-gone Syntax.tyBool) (List._∷_ (
-          9,
-          Rows'.any-gone (Syntax.tyEnum (List._∷_ 114 (List._∷_ 101 (List._∷_ 102 (List._∷_ 117 (List._∷_ 115 (List._∷_ 97 (List._∷_ 108 (List._∷_ 58 (List._∷_ 58 (List._∷_ 82
-              (List._∷_ 101 (List._∷_ 102 (List._∷_ 117 (List._∷_ 115 (List._∷_ 97 (List._∷_ 108 List.[])))))))))))))))) (Syntax.ttcons Syntax.tnil (Syntax.ttcons Syntax.tnil
-              (Syntax.ttcons Syntax.tnil (Syntax.ttcons Syntax.tnil (Syntax.ttcons Syntax.tnil (Syntax.ttcons Syntax.tnil (Syntax.ttcons Syntax.tnil (Syntax.ttcons Syntax.tnil
-              (Syntax.ttcons Syntax.tnil (Syntax.ttcons Syntax.tnil (Syntax.ttcons Syntax.tnil (Syntax.ttcons Syntax.tnil Syntax.ttnil))))))))))))),
+              (Syntax.ttcons Syntax.tnil (Syntax.ttcons Syntax.tnil (Syntax.ttcons Syntax.tnil Syntax.ttnil))))))))))))) Syntax.tnil) Syntax.ttnil))),
         ) (List._∷_ (
-          10,
-          Rows'.any-gone
-              (Syntax.tyArray (Syntax.tyInt Syntax.w32) 3),
-        ) (List._∷_ (11, Rows'.any-gone (Syntax.tyRef Syntax.erased Syntax.mut Of.tyBy)) (List._∷_ (
-          12,
-          Rows'.any-gone
-              (Syntax.tyStruct (List._∷_ 38 (List._∷_ 91 (List._∷_ 93 List.[]))) (Syntax.tcons (Syntax.tyRef Syntax.erased Syntax.mut Of.tyBy) (Syntax.tcons (Syntax.tyInt Syntax.w64)
-              Syntax.tnil))),
-        ) (List._∷_ (13, Rows'.any-gone (Syntax.tyRef Syntax.erased Syntax.mut (Syntax.tyArray (Syntax.tyArray (Syntax.tyInt Syntax.w32) 3) 256))) (List._∷_ (
-          14,
-          Rows'.any-gone (Syntax.tyStruct (List._∷_ 38 (List._∷_ 91 (List._∷_ 93 List.[]))) (Syntax.tcons (Syntax.tyRef Syntax.erased Syntax.mut (Syntax.tyArray
-              (Syntax.tyInt Syntax.w32) 3)) (Syntax.tcons (Syntax.tyInt Syntax.w64) Syntax.tnil))),
-        ) (List._∷_ (15, Rows'.any-gone (Syntax.tyArray (Syntax.tyInt Syntax.w32) 3))
-            List.[])))))))))))))))
+          1,
+          Rows'.whole
+              (Declared'.row Stream.the-type),
+        ) (List._∷_ (2, Relend.mslice-owed Of.R (Syntax.tyRef (Syntax.named 0) Syntax.mut Of.tyBy) 0 3 (Row.lease (κs .0) (qs .0))) (List._∷_
+            (3, Rows'.sc-here (Row.sInt Syntax.w32)) (List._∷_ (4, Rows'.sc-here (Row.sInt Syntax.w64)) (List._∷_ (5, Rows'.sc-here (Row.sInt Syntax.w64)) (List._∷_ (
+              6,
+              Rows'.any-gone (Syntax.tyArray (Syntax.tyArray (Syntax.tyInt Syntax.w32) 3) 256),
+            ) (List._∷_ (
+              7,
+              Rows.arrF (Array'.Array (Referent.rtF (Referent.fInt Syntax.w32)) 3)
+                  4096 0,
+            ) (List._∷_ (8, Rows'.any-gone Syntax.tyBool) (List._∷_ (
+              9,
+              Rows'.any-gone (Syntax.tyEnum (List._∷_ 114 (List._∷_ 101 (List._∷_ 102 (List._∷_ 117 (List._∷_ 115
+                  (List._∷_ 97 (List._∷_ 108 (List._∷_ 58 (List._∷_ 58 (List._∷_ 82 (List._∷_ 101 (List._∷_ 102 (List._∷_ 117 (List._∷_ 115 (List._∷_ 97 (List._∷_ 108
+                  List.[])))))))))))))))) (Syntax.ttcons Syntax.tnil (Syntax.ttcons Syntax.tnil (Syntax.ttcons Syntax.tnil (Syntax.ttcons Syntax.tnil (Syntax.ttcons Syntax.tnil
+                  (Syntax.ttcons Syntax.tnil (Syntax.ttcons Syntax.tnil (Syntax.ttcons Syntax.tnil (Syntax.ttcons Syntax.tnil (Syntax.ttcons Syntax.tnil (Syntax.ttcons Syntax.tnil
+                  (Syntax.ttcons Syntax.tnil Syntax.ttnil))))))))))))),
+            ) (List._∷_ (10, Rows'.any-gone (Syntax.tyArray (Syntax.tyInt Syntax.w32) 3)) (List._∷_ (
+              11,
+              Rows'.any-gone
+                  (Syntax.tyRef Syntax.erased Syntax.mut Of.tyBy),
+            ) (List._∷_ (
+              12,
+              Rows'.any-gone (Syntax.tyStruct (List._∷_ 38 (List._∷_ 91 (List._∷_ 93 List.[]))) (Syntax.tcons
+                  (Syntax.tyRef Syntax.erased Syntax.mut Of.tyBy) (Syntax.tcons (Syntax.tyInt Syntax.w64) Syntax.tnil))),
+            ) (List._∷_ (
+              13,
+              Rows'.any-gone (Syntax.tyRef Syntax.erased
+                  Syntax.mut (Syntax.tyArray (Syntax.tyArray (Syntax.tyInt Syntax.w32) 3) 256)),
+            ) (List._∷_ (
+              14,
+              Rows'.any-gone (Syntax.tyStruct (List._∷_ 38 (List._∷_ 91 (List._∷_ 93
+                  List.[]))) (Syntax.tcons (Syntax.tyRef Syntax.erased Syntax.mut (Syntax.tyArray (Syntax.tyInt Syntax.w32) 3)) (Syntax.tcons (Syntax.tyInt Syntax.w64) Syntax.tnil))),
+            )
+            (List._∷_ (15, Rows'.any-gone (Syntax.tyArray (Syntax.tyInt Syntax.w32) 3)) List.[])))))))))))))))
 
         abbrev g37 : List.List Row.Entry
         g37 = List._∷_ (
@@ -3335,48 +3349,52 @@ module _ (claims· : Claims) where
               100 (List._∷_ 95 (List._∷_ 107 (List._∷_ 104 (List._∷_ 97 (List._∷_ 110 (List._∷_ 110 (List._∷_ 97 (List._∷_ 58 (List._∷_ 58 (List._∷_ 73 (List._∷_ 110 (List._∷_ 115
               (List._∷_ 101 (List._∷_ 114 (List._∷_ 116 (List._∷_ 101 (List._∷_ 100 List.[])))))))))))))))))))))))))) (Syntax.ttcons (Syntax.tcons (Syntax.tyStruct (List._∷_ 103
               (List._∷_ 114 (List._∷_ 101 (List._∷_ 101 (List._∷_ 110 (List._∷_ 119 (List._∷_ 97 (List._∷_ 108 (List._∷_ 100 (List._∷_ 95 (List._∷_ 107 (List._∷_ 104 (List._∷_ 97
-              (List._∷_ 110 (List._∷_ 110 (List._∷_ 97 (List._∷_ 58 (List._∷_ 58 (List._∷_ 83 (List._∷_ 116 (List._∷_ 114 (List._∷_ 101 (List._∷_ 97 (List._∷_ 109
-              List.[])))))))))))))))))))))))) (Syntax.tcons (Syntax.tyStruct (List._∷_ 102 (List._∷_ 114 (List._∷_ 97 (List._∷_ 99 (List._∷_ 116 (List._∷_ 105 (List._∷_ 111 (List._∷_
-              110 (List._∷_ 58 (List._∷_ 58 (List._∷_ 70 (List._∷_ 114 (List._∷_ 97 (List._∷_ 99 (List._∷_ 116 (List._∷_ 105 (List._∷_ 111 (List._∷_ 110 List.[]))))))))))))))))))
-              (Syntax.tcons (Syntax.tyInt Syntax.w32) (Syntax.tcons (Syntax.tyInt Syntax.w32) Syntax.tnil))) (Syntax.tcons (Syntax.tyInt Syntax.w32) (Syntax.tcons (Syntax.tyInt
-              Syntax.w32) Syntax.tnil)))) Syntax.tnil) (Syntax.ttcons (Syntax.tcons (Syntax.tyEnum (List._∷_ 114 (List._∷_ 101 (List._∷_ 102 (List._∷_ 117 (List._∷_ 115 (List._∷_ 97
-              (List._∷_ 108 (List._∷_ 58 (List._∷_ 58 (List._∷_ 82 (List._∷_ 101 (List._∷_ 102 (List._∷_ 117 (List._∷_ 115 (List._∷_ 97 (List._∷_ 108 List.[]))))))))))))))))
+              (List._∷_ 110 (List._∷_ 110 (List._∷_ 97 (List._∷_ 95 (List._∷_ 115 (List._∷_ 116 (List._∷_ 101 (List._∷_ 112 (List._∷_ 115 (List._∷_ 58 (List._∷_ 58 (List._∷_ 83
+              (List._∷_ 116 (List._∷_ 114 (List._∷_ 101 (List._∷_ 97 (List._∷_ 109 List.[])))))))))))))))))))))))))))))) (Syntax.tcons (Syntax.tyStruct (List._∷_ 102 (List._∷_ 114
+              (List._∷_ 97 (List._∷_ 99 (List._∷_ 116 (List._∷_ 105 (List._∷_ 111 (List._∷_ 110 (List._∷_ 58 (List._∷_ 58 (List._∷_ 70 (List._∷_ 114 (List._∷_ 97 (List._∷_ 99
+              (List._∷_ 116 (List._∷_ 105 (List._∷_ 111 (List._∷_ 110 List.[])))))))))))))))))) (Syntax.tcons (Syntax.tyInt Syntax.w32) (Syntax.tcons (Syntax.tyInt Syntax.w32)
+              Syntax.tnil))) (Syntax.tcons (Syntax.tyInt Syntax.w32) (Syntax.tcons (Syntax.tyInt Syntax.w32) Syntax.tnil)))) Syntax.tnil) (Syntax.ttcons (Syntax.tcons (Syntax.tyEnum
+              (List._∷_ 114 (List._∷_ 101 (List._∷_ 102 (List._∷_ 117 (List._∷_ 115 (List._∷_ 97 (List._∷_ 108 (List._∷_ 58 (List._∷_ 58 (List._∷_ 82 (List._∷_ 101 (List._∷_ 102
+              (List._∷_ 117 (List._∷_ 115 (List._∷_ 97 (List._∷_ 108 List.[])))))))))))))))) (Syntax.ttcons Syntax.tnil (Syntax.ttcons Syntax.tnil (Syntax.ttcons Syntax.tnil
               (Syntax.ttcons Syntax.tnil (Syntax.ttcons Syntax.tnil (Syntax.ttcons Syntax.tnil (Syntax.ttcons Syntax.tnil (Syntax.ttcons Syntax.tnil (Syntax.ttcons Syntax.tnil
-              (Syntax.ttcons Syntax.tnil (Syntax.ttcons Syntax.tnil (Syntax.ttcons Syntax.tnil (Syntax.ttcons Syntax.tnil (Syntax.ttcons Syntax.tnil (Syntax.ttcons Syntax.tnil
-              Syntax.ttnil))))))))))))) Syntax.tnil) Syntax.ttnil))),
-        ) (List._∷_ (1, Rows'.whole (Declared'.row Stream.the-type)) (List._∷_ (
-          2,
-          Relend.mslice-owed Of.R
-              (Syntax.tyRef (Syntax.named 0) Syntax.mut Of.tyBy) 0 3 (Row.lease (κs .0) (qs .0)),
-        ) (List._∷_ (3, Rows'.sc-here (Row.sInt Syntax.w32)) (List._∷_ (
-          4,
-          Rows'.sc-here
-              (Row.sInt Syntax.w64),
-        ) (List._∷_ (5, Rows'.sc-here (Row.sInt Syntax.w64)) (List._∷_ (
-          6,
-          Rows'.any-gone (Syntax.tyArray (Syntax.tyArray (Syntax.tyInt Syntax.w32) 3)
-              256),
-        ) (List._∷_ (7, Rows.arr-owed (Array'.Array (Referent.rtF (Referent.fInt Syntax.w32)) 3) 4096 4) (List._∷_ (8, Rows'.any-gone Syntax.tyBool) (List._∷_ (
-          9,
-          Rows'.any-gone (Syntax.tyEnum (List._∷_ 114 (List._∷_ 101 (List._∷_ 102 (List._∷_ 117 (List._∷_ 115 (List._∷_ 97 (List._∷_ 108 (List._∷_ 58 (List._∷_ 58 (List._∷_ 82
-              (List._∷_ 101 (List._∷_ 102 (List._∷_ 117 (List._∷_ 115 (List._∷_ 97 (List._∷_ 108 List.[])))))))))))))))) (Syntax.ttcons Syntax.tnil (Syntax.ttcons Syntax.tnil
-              (Syntax.ttcons Syntax.tnil (Syntax.ttcons Syntax.tnil (Syntax.ttcons Syntax.tnil (Syntax.ttcons Syntax.tnil (Syntax.ttcons Syntax.tnil (Syntax.ttcons Syntax.tnil
-              (Syntax.ttcons Syntax.tnil (Syntax.ttcons Syntax.tnil (Syntax.ttcons Syntax.tnil (Syntax.ttcons Syntax.tnil Syntax.ttnil))))))))))))),
+              (Syntax.ttcons Syntax.tnil (Syntax.ttcons Syntax.tnil (Syntax.ttcons Syntax.tnil Syntax.ttnil))))))))))))) Syntax.tnil) Syntax.ttnil))),
         ) (List._∷_ (
-          10,
-          Rows'.any-gone
-              (Syntax.tyArray (Syntax.tyInt Syntax.w32) 3),
-        ) (List._∷_ (11, Rows'.any-gone (Syntax.tyRef Syntax.erased Syntax.mut Of.tyBy)) (List._∷_ (
-          12,
-          Rows'.any-gone
-              (Syntax.tyStruct (List._∷_ 38 (List._∷_ 91 (List._∷_ 93 List.[]))) (Syntax.tcons (Syntax.tyRef Syntax.erased Syntax.mut Of.tyBy) (Syntax.tcons (Syntax.tyInt Syntax.w64)
-              Syntax.tnil))),
-        ) (List._∷_ (13, Rows'.any-gone (Syntax.tyRef Syntax.erased Syntax.mut (Syntax.tyArray (Syntax.tyArray (Syntax.tyInt Syntax.w32) 3) 256))) (List._∷_ (
-          14,
-          Rows'.any-gone (Syntax.tyStruct (List._∷_ 38 (List._∷_ 91 (List._∷_ 93 List.[]))) (Syntax.tcons (Syntax.tyRef Syntax.erased Syntax.mut (Syntax.tyArray
-              (Syntax.tyInt Syntax.w32) 3)) (Syntax.tcons (Syntax.tyInt Syntax.w64) Syntax.tnil))),
-        ) (List._∷_ (15, Rows'.any-gone (Syntax.tyArray (Syntax.tyInt Syntax.w32) 3))
-            List.[])))))))))))))))
+          1,
+          Rows'.whole
+              (Declared'.row Stream.the-type),
+        ) (List._∷_ (2, Relend.mslice-owed Of.R (Syntax.tyRef (Syntax.named 0) Syntax.mut Of.tyBy) 0 3 (Row.lease (κs .0) (qs .0))) (List._∷_
+            (3, Rows'.sc-here (Row.sInt Syntax.w32)) (List._∷_ (4, Rows'.sc-here (Row.sInt Syntax.w64)) (List._∷_ (5, Rows'.sc-here (Row.sInt Syntax.w64)) (List._∷_ (
+              6,
+              Rows'.any-gone (Syntax.tyArray (Syntax.tyArray (Syntax.tyInt Syntax.w32) 3) 256),
+            ) (List._∷_ (
+              7,
+              Rows.arr-owed (Array'.Array (Referent.rtF (Referent.fInt Syntax.w32))
+                  3) 4096 4,
+            ) (List._∷_ (8, Rows'.any-gone Syntax.tyBool) (List._∷_ (
+              9,
+              Rows'.any-gone (Syntax.tyEnum (List._∷_ 114 (List._∷_ 101 (List._∷_ 102 (List._∷_ 117 (List._∷_
+                  115 (List._∷_ 97 (List._∷_ 108 (List._∷_ 58 (List._∷_ 58 (List._∷_ 82 (List._∷_ 101 (List._∷_ 102 (List._∷_ 117 (List._∷_ 115 (List._∷_ 97 (List._∷_ 108
+                  List.[])))))))))))))))) (Syntax.ttcons Syntax.tnil (Syntax.ttcons Syntax.tnil (Syntax.ttcons Syntax.tnil (Syntax.ttcons Syntax.tnil (Syntax.ttcons Syntax.tnil
+                  (Syntax.ttcons Syntax.tnil (Syntax.ttcons Syntax.tnil (Syntax.ttcons Syntax.tnil (Syntax.ttcons Syntax.tnil (Syntax.ttcons Syntax.tnil (Syntax.ttcons Syntax.tnil
+                  (Syntax.ttcons Syntax.tnil Syntax.ttnil))))))))))))),
+            ) (List._∷_ (10, Rows'.any-gone (Syntax.tyArray (Syntax.tyInt Syntax.w32) 3)) (List._∷_ (
+              11,
+              Rows'.any-gone
+                  (Syntax.tyRef Syntax.erased Syntax.mut Of.tyBy),
+            ) (List._∷_ (
+              12,
+              Rows'.any-gone (Syntax.tyStruct (List._∷_ 38 (List._∷_ 91 (List._∷_ 93 List.[]))) (Syntax.tcons
+                  (Syntax.tyRef Syntax.erased Syntax.mut Of.tyBy) (Syntax.tcons (Syntax.tyInt Syntax.w64) Syntax.tnil))),
+            ) (List._∷_ (
+              13,
+              Rows'.any-gone (Syntax.tyRef Syntax.erased
+                  Syntax.mut (Syntax.tyArray (Syntax.tyArray (Syntax.tyInt Syntax.w32) 3) 256)),
+            ) (List._∷_ (
+              14,
+              Rows'.any-gone (Syntax.tyStruct (List._∷_ 38 (List._∷_ 91 (List._∷_ 93
+                  List.[]))) (Syntax.tcons (Syntax.tyRef Syntax.erased Syntax.mut (Syntax.tyArray (Syntax.tyInt Syntax.w32) 3)) (Syntax.tcons (Syntax.tyInt Syntax.w64) Syntax.tnil))),
+            )
+            (List._∷_ (15, Rows'.any-gone (Syntax.tyArray (Syntax.tyInt Syntax.w32) 3)) List.[])))))))))))))))
 
         abbrev g40 : List.List Row.Entry
         g40 = List._∷_ (0, Rows'.whole (Declared.row Inserted.the-type)) (List._∷_ (1, Rows'.whole (Declared'.row Stream.the-type)) (List._∷_ (
@@ -3418,142 +3436,132 @@ module _ (claims· : Claims) where
           1,
           Rows'.any-gone (Syntax.tyStruct (List._∷_ 103 (List._∷_ 114 (List._∷_ 101 (List._∷_ 101
               (List._∷_ 110 (List._∷_ 119 (List._∷_ 97 (List._∷_ 108 (List._∷_ 100 (List._∷_ 95 (List._∷_ 107 (List._∷_ 104 (List._∷_ 97 (List._∷_ 110 (List._∷_ 110 (List._∷_ 97
-              (List._∷_ 58 (List._∷_ 58 (List._∷_ 83 (List._∷_ 116 (List._∷_ 114 (List._∷_ 101 (List._∷_ 97 (List._∷_ 109 List.[])))))))))))))))))))))))) (Syntax.tcons
-              (Syntax.tyStruct (List._∷_ 102 (List._∷_ 114 (List._∷_ 97 (List._∷_ 99 (List._∷_ 116 (List._∷_ 105 (List._∷_ 111 (List._∷_ 110 (List._∷_ 58 (List._∷_ 58 (List._∷_ 70
-              (List._∷_ 114 (List._∷_ 97 (List._∷_ 99 (List._∷_ 116 (List._∷_ 105 (List._∷_ 111 (List._∷_ 110 List.[])))))))))))))))))) (Syntax.tcons (Syntax.tyInt Syntax.w32)
-              (Syntax.tcons (Syntax.tyInt Syntax.w32) Syntax.tnil))) (Syntax.tcons (Syntax.tyInt Syntax.w32) (Syntax.tcons (Syntax.tyInt Syntax.w32) Syntax.tnil)))),
+              (List._∷_ 95 (List._∷_ 115 (List._∷_ 116 (List._∷_ 101 (List._∷_ 112 (List._∷_ 115 (List._∷_ 58 (List._∷_ 58 (List._∷_ 83 (List._∷_ 116 (List._∷_ 114 (List._∷_ 101
+              (List._∷_ 97 (List._∷_ 109 List.[])))))))))))))))))))))))))))))) (Syntax.tcons (Syntax.tyStruct (List._∷_ 102 (List._∷_ 114 (List._∷_ 97 (List._∷_ 99 (List._∷_ 116
+              (List._∷_ 105 (List._∷_ 111 (List._∷_ 110 (List._∷_ 58 (List._∷_ 58 (List._∷_ 70 (List._∷_ 114 (List._∷_ 97 (List._∷_ 99 (List._∷_ 116 (List._∷_ 105 (List._∷_ 111
+              (List._∷_ 110 List.[])))))))))))))))))) (Syntax.tcons (Syntax.tyInt Syntax.w32) (Syntax.tcons (Syntax.tyInt Syntax.w32) Syntax.tnil))) (Syntax.tcons (Syntax.tyInt
+              Syntax.w32) (Syntax.tcons (Syntax.tyInt Syntax.w32) Syntax.tnil)))),
         ) (List._∷_ (
           2,
-          Relend.mslice-owed Of.R (Syntax.tyRef (Syntax.named 0) Syntax.mut Of.tyBy) 0 3 (Row.lease (κs .0) (qs .0)),
-        ) (List._∷_ (3, Rows'.sc-here (Row.sInt Syntax.w32))
-            (List._∷_ (4, Rows'.sc-here (Row.sInt Syntax.w64)) (List._∷_ (5, Rows'.sc-here (Row.sInt Syntax.w64)) (List._∷_ (
-              6,
-              Rows'.any-gone (Syntax.tyArray (Syntax.tyArray
-                  (Syntax.tyInt Syntax.w32) 3) 256),
-            ) (List._∷_ (7, Rows.arr-owed (Array'.Array (Referent.rtF (Referent.fInt Syntax.w32)) 3) 4096 4) (List._∷_ (
-              8,
-              Rows'.any-gone
-                  Syntax.tyBool,
-            ) (List._∷_ (
-              9,
-              Rows'.any-gone (Syntax.tyEnum (List._∷_ 114 (List._∷_ 101 (List._∷_ 102 (List._∷_ 117 (List._∷_ 115 (List._∷_ 97 (List._∷_ 108 (List._∷_
-                  58 (List._∷_ 58 (List._∷_ 82 (List._∷_ 101 (List._∷_ 102 (List._∷_ 117 (List._∷_ 115 (List._∷_ 97 (List._∷_ 108 List.[])))))))))))))))) (Syntax.ttcons Syntax.tnil
-                  (Syntax.ttcons Syntax.tnil (Syntax.ttcons Syntax.tnil (Syntax.ttcons Syntax.tnil (Syntax.ttcons Syntax.tnil (Syntax.ttcons Syntax.tnil (Syntax.ttcons Syntax.tnil
-                  (Syntax.ttcons Syntax.tnil (Syntax.ttcons Syntax.tnil (Syntax.ttcons Syntax.tnil (Syntax.ttcons Syntax.tnil (Syntax.ttcons Syntax.tnil Syntax.ttnil))))))))))))),
-            )
-            (List._∷_ (10, Rows'.any-gone (Syntax.tyArray (Syntax.tyInt Syntax.w32) 3)) (List._∷_ (11, Rows'.any-gone (Syntax.tyRef Syntax.erased Syntax.mut Of.tyBy)) (List._∷_ (
+          Relend.mslice-owed Of.R (Syntax.tyRef (Syntax.named 0) Syntax.mut Of.tyBy) 0 3
+              (Row.lease (κs .0) (qs .0)),
+        ) (List._∷_ (3, Rows'.sc-here (Row.sInt Syntax.w32)) (List._∷_ (4, Rows'.sc-here (Row.sInt Syntax.w64)) (List._∷_ (
+          5,
+          Rows'.sc-here
+              (Row.sInt Syntax.w64),
+        ) (List._∷_ (6, Rows'.any-gone (Syntax.tyArray (Syntax.tyArray (Syntax.tyInt Syntax.w32) 3) 256)) (List._∷_ (
+          7,
+          Rows.arr-owed (Array'.Array
+              (Referent.rtF (Referent.fInt Syntax.w32)) 3) 4096 4,
+        ) (List._∷_ (8, Rows'.any-gone Syntax.tyBool) (List._∷_ (
+          9,
+          Rows'.any-gone (Syntax.tyEnum (List._∷_ 114 (List._∷_
+              101 (List._∷_ 102 (List._∷_ 117 (List._∷_ 115 (List._∷_ 97 (List._∷_ 108 (List._∷_ 58 (List._∷_ 58 (List._∷_ 82 (List._∷_ 101 (List._∷_ 102 (List._∷_ 117 (List._∷_ 115
+              (List._∷_ 97 (List._∷_ 108 List.[])))))))))))))))) (Syntax.ttcons Syntax.tnil (Syntax.ttcons Syntax.tnil (Syntax.ttcons Syntax.tnil (Syntax.ttcons Syntax.tnil
+              (Syntax.ttcons Syntax.tnil (Syntax.ttcons Syntax.tnil (Syntax.ttcons Syntax.tnil (Syntax.ttcons Syntax.tnil (Syntax.ttcons Syntax.tnil (Syntax.ttcons Syntax.tnil
+              (Syntax.ttcons Syntax.tnil (Syntax.ttcons Syntax.tnil Syntax.ttnil))))))))))))),
+        ) (List._∷_ (10, Rows'.any-gone (Syntax.tyArray (Syntax.tyInt Syntax.w32) 3)) (List._∷_
+            (11, Rows'.any-gone (Syntax.tyRef Syntax.erased Syntax.mut Of.tyBy)) (List._∷_ (
               12,
-              Rows'.any-gone (Syntax.tyStruct (List._∷_ 38 (List._∷_ 91 (List._∷_ 93 List.[]))) (Syntax.tcons (Syntax.tyRef Syntax.erased Syntax.mut Of.tyBy) (Syntax.tcons
-                  (Syntax.tyInt Syntax.w64) Syntax.tnil))),
+              Rows'.any-gone (Syntax.tyStruct (List._∷_ 38 (List._∷_ 91 (List._∷_ 93
+                  List.[]))) (Syntax.tcons (Syntax.tyRef Syntax.erased Syntax.mut Of.tyBy) (Syntax.tcons (Syntax.tyInt Syntax.w64) Syntax.tnil))),
             ) (List._∷_ (
               13,
-              Rows'.any-gone (Syntax.tyRef Syntax.erased Syntax.mut (Syntax.tyArray (Syntax.tyArray (Syntax.tyInt
-                  Syntax.w32) 3) 256)),
+              Rows'.any-gone
+                  (Syntax.tyRef Syntax.erased Syntax.mut (Syntax.tyArray (Syntax.tyArray (Syntax.tyInt Syntax.w32) 3) 256)),
             ) (List._∷_ (
               14,
-              Rows'.any-gone (Syntax.tyStruct (List._∷_ 38 (List._∷_ 91 (List._∷_ 93 List.[]))) (Syntax.tcons (Syntax.tyRef Syntax.erased
-                  Syntax.mut (Syntax.tyArray (Syntax.tyInt Syntax.w32) 3)) (Syntax.tcons (Syntax.tyInt Syntax.w64) Syntax.tnil))),
-            ) (List._∷_ (
-              15,
-              Rows'.any-gone (Syntax.tyArray
-                  (Syntax.tyInt Syntax.w32) 3),
-            ) List.[])))))))))))))))
+              Rows'.any-gone (Syntax.tyStruct (List._∷_
+                  38 (List._∷_ 91 (List._∷_ 93 List.[]))) (Syntax.tcons (Syntax.tyRef Syntax.erased Syntax.mut (Syntax.tyArray (Syntax.tyInt Syntax.w32) 3)) (Syntax.tcons (Syntax.tyInt
+                  Syntax.w64) Syntax.tnil))),
+            ) (List._∷_ (15, Rows'.any-gone (Syntax.tyArray (Syntax.tyInt Syntax.w32) 3)) List.[])))))))))))))))
 
         abbrev g43 : List.List Row.Entry
         g43 = List._∷_ (0, Rows'.whole (Declared.row Inserted.the-type)) (List._∷_ (
           1,
           Rows'.any-gone (Syntax.tyStruct (List._∷_ 103 (List._∷_ 114 (List._∷_ 101 (List._∷_ 101
               (List._∷_ 110 (List._∷_ 119 (List._∷_ 97 (List._∷_ 108 (List._∷_ 100 (List._∷_ 95 (List._∷_ 107 (List._∷_ 104 (List._∷_ 97 (List._∷_ 110 (List._∷_ 110 (List._∷_ 97
-              (List._∷_ 58 (List._∷_ 58 (List._∷_ 83 (List._∷_ 116 (List._∷_ 114 (List._∷_ 101 (List._∷_ 97 (List._∷_ 109 List.[])))))))))))))))))))))))) (Syntax.tcons
-              (Syntax.tyStruct (List._∷_ 102 (List._∷_ 114 (List._∷_ 97 (List._∷_ 99 (List._∷_ 116 (List._∷_ 105 (List._∷_ 111 (List._∷_ 110 (List._∷_ 58 (List._∷_ 58 (List._∷_ 70
-              (List._∷_ 114 (List._∷_ 97 (List._∷_ 99 (List._∷_ 116 (List._∷_ 105 (List._∷_ 111 (List._∷_ 110 List.[])))))))))))))))))) (Syntax.tcons (Syntax.tyInt Syntax.w32)
-              (Syntax.tcons (Syntax.tyInt Syntax.w32) Syntax.tnil))) (Syntax.tcons (Syntax.tyInt Syntax.w32) (Syntax.tcons (Syntax.tyInt Syntax.w32) Syntax.tnil)))),
+              (List._∷_ 95 (List._∷_ 115 (List._∷_ 116 (List._∷_ 101 (List._∷_ 112 (List._∷_ 115 (List._∷_ 58 (List._∷_ 58 (List._∷_ 83 (List._∷_ 116 (List._∷_ 114 (List._∷_ 101
+              (List._∷_ 97 (List._∷_ 109 List.[])))))))))))))))))))))))))))))) (Syntax.tcons (Syntax.tyStruct (List._∷_ 102 (List._∷_ 114 (List._∷_ 97 (List._∷_ 99 (List._∷_ 116
+              (List._∷_ 105 (List._∷_ 111 (List._∷_ 110 (List._∷_ 58 (List._∷_ 58 (List._∷_ 70 (List._∷_ 114 (List._∷_ 97 (List._∷_ 99 (List._∷_ 116 (List._∷_ 105 (List._∷_ 111
+              (List._∷_ 110 List.[])))))))))))))))))) (Syntax.tcons (Syntax.tyInt Syntax.w32) (Syntax.tcons (Syntax.tyInt Syntax.w32) Syntax.tnil))) (Syntax.tcons (Syntax.tyInt
+              Syntax.w32) (Syntax.tcons (Syntax.tyInt Syntax.w32) Syntax.tnil)))),
         ) (List._∷_ (
           2,
-          Relend.mslice-owed Of.R (Syntax.tyRef (Syntax.named 0) Syntax.mut Of.tyBy) 0 3 (Row.lease (κs .0) (qs .0)),
-        ) (List._∷_ (3, Rows'.sc-here (Row.sInt Syntax.w32))
-            (List._∷_ (4, Rows'.any-gone (Syntax.tyInt Syntax.w64)) (List._∷_ (5, Rows'.sc-here (Row.sInt Syntax.w64)) (List._∷_ (
-              6,
-              Rows'.any-gone (Syntax.tyArray
-                  (Syntax.tyArray (Syntax.tyInt Syntax.w32) 3) 256),
-            ) (List._∷_ (7, Rows.arr-owed (Array'.Array (Referent.rtF (Referent.fInt Syntax.w32)) 3) 4096 4) (List._∷_ (
-              8,
-              Rows'.any-gone Syntax.tyBool,
-            ) (List._∷_ (
-              9,
-              Rows'.any-gone (Syntax.tyEnum (List._∷_ 114 (List._∷_ 101 (List._∷_ 102 (List._∷_ 117 (List._∷_ 115 (List._∷_ 97 (List._∷_
-                  108 (List._∷_ 58 (List._∷_ 58 (List._∷_ 82 (List._∷_ 101 (List._∷_ 102 (List._∷_ 117 (List._∷_ 115 (List._∷_ 97 (List._∷_ 108 List.[])))))))))))))))) (Syntax.ttcons
-                  Syntax.tnil (Syntax.ttcons Syntax.tnil (Syntax.ttcons Syntax.tnil (Syntax.ttcons Syntax.tnil (Syntax.ttcons Syntax.tnil (Syntax.ttcons Syntax.tnil (Syntax.ttcons
-                  Syntax.tnil (Syntax.ttcons Syntax.tnil (Syntax.ttcons Syntax.tnil (Syntax.ttcons Syntax.tnil (Syntax.ttcons Syntax.tnil (Syntax.ttcons Syntax.tnil
-                  Syntax.ttnil))))))))))))),
-            ) (List._∷_ (10, Rows'.any-gone (Syntax.tyArray (Syntax.tyInt Syntax.w32) 3)) (List._∷_ (
-              11,
-              Rows'.any-gone (Syntax.tyRef Syntax.erased
-                  Syntax.mut Of.tyBy),
-            ) (List._∷_ (
+          Relend.mslice-owed Of.R (Syntax.tyRef (Syntax.named 0) Syntax.mut Of.tyBy) 0 3
+              (Row.lease (κs .0) (qs .0)),
+        ) (List._∷_ (3, Rows'.sc-here (Row.sInt Syntax.w32)) (List._∷_ (4, Rows'.any-gone (Syntax.tyInt Syntax.w64)) (List._∷_ (
+          5,
+          Rows'.sc-here
+              (Row.sInt Syntax.w64),
+        ) (List._∷_ (6, Rows'.any-gone (Syntax.tyArray (Syntax.tyArray (Syntax.tyInt Syntax.w32) 3) 256)) (List._∷_ (
+          7,
+          Rows.arr-owed (Array'.Array
+              (Referent.rtF (Referent.fInt Syntax.w32)) 3) 4096 4,
+        ) (List._∷_ (8, Rows'.any-gone Syntax.tyBool) (List._∷_ (
+          9,
+          Rows'.any-gone (Syntax.tyEnum (List._∷_ 114 (List._∷_
+              101 (List._∷_ 102 (List._∷_ 117 (List._∷_ 115 (List._∷_ 97 (List._∷_ 108 (List._∷_ 58 (List._∷_ 58 (List._∷_ 82 (List._∷_ 101 (List._∷_ 102 (List._∷_ 117 (List._∷_ 115
+              (List._∷_ 97 (List._∷_ 108 List.[])))))))))))))))) (Syntax.ttcons Syntax.tnil (Syntax.ttcons Syntax.tnil (Syntax.ttcons Syntax.tnil (Syntax.ttcons Syntax.tnil
+              (Syntax.ttcons Syntax.tnil (Syntax.ttcons Syntax.tnil (Syntax.ttcons Syntax.tnil (Syntax.ttcons Syntax.tnil (Syntax.ttcons Syntax.tnil (Syntax.ttcons Syntax.tnil
+              (Syntax.ttcons Syntax.tnil (Syntax.ttcons Syntax.tnil Syntax.ttnil))))))))))))),
+        ) (List._∷_ (10, Rows'.any-gone (Syntax.tyArray (Syntax.tyInt Syntax.w32) 3)) (List._∷_
+            (11, Rows'.any-gone (Syntax.tyRef Syntax.erased Syntax.mut Of.tyBy)) (List._∷_ (
               12,
-              Rows'.any-gone (Syntax.tyStruct (List._∷_ 38 (List._∷_ 91 (List._∷_ 93 List.[]))) (Syntax.tcons (Syntax.tyRef Syntax.erased
-                  Syntax.mut Of.tyBy) (Syntax.tcons (Syntax.tyInt Syntax.w64) Syntax.tnil))),
+              Rows'.any-gone (Syntax.tyStruct (List._∷_ 38 (List._∷_ 91 (List._∷_ 93
+                  List.[]))) (Syntax.tcons (Syntax.tyRef Syntax.erased Syntax.mut Of.tyBy) (Syntax.tcons (Syntax.tyInt Syntax.w64) Syntax.tnil))),
             ) (List._∷_ (
               13,
-              Rows'.any-gone (Syntax.tyRef Syntax.erased Syntax.mut (Syntax.tyArray
-                  (Syntax.tyArray (Syntax.tyInt Syntax.w32) 3) 256)),
+              Rows'.any-gone
+                  (Syntax.tyRef Syntax.erased Syntax.mut (Syntax.tyArray (Syntax.tyArray (Syntax.tyInt Syntax.w32) 3) 256)),
             ) (List._∷_ (
               14,
-              Rows'.any-gone (Syntax.tyStruct (List._∷_ 38 (List._∷_ 91 (List._∷_ 93 List.[]))) (Syntax.tcons
-                  (Syntax.tyRef Syntax.erased Syntax.mut (Syntax.tyArray (Syntax.tyInt Syntax.w32) 3)) (Syntax.tcons (Syntax.tyInt Syntax.w64) Syntax.tnil))),
-            ) (List._∷_ (
-              15,
-              Rows'.any-gone (Syntax.tyArray (Syntax.tyInt Syntax.w32) 3),
-            ) List.[])))))))))))))))
+              Rows'.any-gone (Syntax.tyStruct (List._∷_
+                  38 (List._∷_ 91 (List._∷_ 93 List.[]))) (Syntax.tcons (Syntax.tyRef Syntax.erased Syntax.mut (Syntax.tyArray (Syntax.tyInt Syntax.w32) 3)) (Syntax.tcons (Syntax.tyInt
+                  Syntax.w64) Syntax.tnil))),
+            ) (List._∷_ (15, Rows'.any-gone (Syntax.tyArray (Syntax.tyInt Syntax.w32) 3)) List.[])))))))))))))))
 
         abbrev g44 : List.List Row.Entry
         g44 = List._∷_ (0, Rows'.whole (Declared.row Inserted.the-type)) (List._∷_ (
           1,
           Rows'.any-gone (Syntax.tyStruct (List._∷_ 103 (List._∷_ 114 (List._∷_ 101 (List._∷_ 101
               (List._∷_ 110 (List._∷_ 119 (List._∷_ 97 (List._∷_ 108 (List._∷_ 100 (List._∷_ 95 (List._∷_ 107 (List._∷_ 104 (List._∷_ 97 (List._∷_ 110 (List._∷_ 110 (List._∷_ 97
-              (List._∷_ 58 (List._∷_ 58 (List._∷_ 83 (List._∷_ 116 (List._∷_ 114 (List._∷_ 101 (List._∷_ 97 (List._∷_ 109 List.[])))))))))))))))))))))))) (Syntax.tcons
-              (Syntax.tyStruct (List._∷_ 102 (List._∷_ 114 (List._∷_ 97 (List._∷_ 99 (List._∷_ 116 (List._∷_ 105 (List._∷_ 111 (List._∷_ 110 (List._∷_ 58 (List._∷_ 58 (List._∷_ 70
-              (List._∷_ 114 (List._∷_ 97 (List._∷_ 99 (List._∷_ 116 (List._∷_ 105 (List._∷_ 111 (List._∷_ 110 List.[])))))))))))))))))) (Syntax.tcons (Syntax.tyInt Syntax.w32)
-              (Syntax.tcons (Syntax.tyInt Syntax.w32) Syntax.tnil))) (Syntax.tcons (Syntax.tyInt Syntax.w32) (Syntax.tcons (Syntax.tyInt Syntax.w32) Syntax.tnil)))),
+              (List._∷_ 95 (List._∷_ 115 (List._∷_ 116 (List._∷_ 101 (List._∷_ 112 (List._∷_ 115 (List._∷_ 58 (List._∷_ 58 (List._∷_ 83 (List._∷_ 116 (List._∷_ 114 (List._∷_ 101
+              (List._∷_ 97 (List._∷_ 109 List.[])))))))))))))))))))))))))))))) (Syntax.tcons (Syntax.tyStruct (List._∷_ 102 (List._∷_ 114 (List._∷_ 97 (List._∷_ 99 (List._∷_ 116
+              (List._∷_ 105 (List._∷_ 111 (List._∷_ 110 (List._∷_ 58 (List._∷_ 58 (List._∷_ 70 (List._∷_ 114 (List._∷_ 97 (List._∷_ 99 (List._∷_ 116 (List._∷_ 105 (List._∷_ 111
+              (List._∷_ 110 List.[])))))))))))))))))) (Syntax.tcons (Syntax.tyInt Syntax.w32) (Syntax.tcons (Syntax.tyInt Syntax.w32) Syntax.tnil))) (Syntax.tcons (Syntax.tyInt
+              Syntax.w32) (Syntax.tcons (Syntax.tyInt Syntax.w32) Syntax.tnil)))),
         ) (List._∷_ (
           2,
-          Relend.mslice-owed Of.R (Syntax.tyRef (Syntax.named 0) Syntax.mut Of.tyBy) 0 3 (Row.lease (κs .0) (qs .0)),
-        ) (List._∷_ (3, Rows'.sc-here (Row.sInt Syntax.w32))
-            (List._∷_ (4, Rows'.any-gone (Syntax.tyInt Syntax.w64)) (List._∷_ (5, Rows'.any-gone (Syntax.tyInt Syntax.w64)) (List._∷_ (
-              6,
-              Rows'.any-gone (Syntax.tyArray
-                  (Syntax.tyArray (Syntax.tyInt Syntax.w32) 3) 256),
-            ) (List._∷_ (7, Rows.arr-owed (Array'.Array (Referent.rtF (Referent.fInt Syntax.w32)) 3) 4096 4) (List._∷_ (
-              8,
-              Rows'.any-gone Syntax.tyBool,
-            ) (List._∷_ (
-              9,
-              Rows'.any-gone (Syntax.tyEnum (List._∷_ 114 (List._∷_ 101 (List._∷_ 102 (List._∷_ 117 (List._∷_ 115 (List._∷_ 97 (List._∷_
-                  108 (List._∷_ 58 (List._∷_ 58 (List._∷_ 82 (List._∷_ 101 (List._∷_ 102 (List._∷_ 117 (List._∷_ 115 (List._∷_ 97 (List._∷_ 108 List.[])))))))))))))))) (Syntax.ttcons
-                  Syntax.tnil (Syntax.ttcons Syntax.tnil (Syntax.ttcons Syntax.tnil (Syntax.ttcons Syntax.tnil (Syntax.ttcons Syntax.tnil (Syntax.ttcons Syntax.tnil (Syntax.ttcons
-                  Syntax.tnil (Syntax.ttcons Syntax.tnil (Syntax.ttcons Syntax.tnil (Syntax.ttcons Syntax.tnil (Syntax.ttcons Syntax.tnil (Syntax.ttcons Syntax.tnil
-                  Syntax.ttnil))))))))))))),
-            ) (List._∷_ (10, Rows'.any-gone (Syntax.tyArray (Syntax.tyInt Syntax.w32) 3)) (List._∷_ (
-              11,
-              Rows'.any-gone (Syntax.tyRef Syntax.erased
-                  Syntax.mut Of.tyBy),
-            ) (List._∷_ (
-              12,
-              Rows'.any-gone (Syntax.tyStruct (List._∷_ 38 (List._∷_ 91 (List._∷_ 93 List.[]))) (Syntax.tcons (Syntax.tyRef Syntax.erased
-                  Syntax.mut Of.tyBy) (Syntax.tcons (Syntax.tyInt Syntax.w64) Syntax.tnil))),
-            ) (List._∷_ (
-              13,
-              Rows'.any-gone (Syntax.tyRef Syntax.erased Syntax.mut (Syntax.tyArray
-                  (Syntax.tyArray (Syntax.tyInt Syntax.w32) 3) 256)),
-            ) (List._∷_ (
-              14,
-              Rows'.any-gone (Syntax.tyStruct (List._∷_ 38 (List._∷_ 91 (List._∷_ 93 List.[]))) (Syntax.tcons
-                  (Syntax.tyRef Syntax.erased Syntax.mut (Syntax.tyArray (Syntax.tyInt Syntax.w32) 3)) (Syntax.tcons (Syntax.tyInt Syntax.w64) Syntax.tnil))),
-            ) (List._∷_ (
-              15,
-              Rows'.any-gone (Syntax.tyArray (Syntax.tyInt Syntax.w32) 3),
-            ) List.[])))))))))))))))
+          Relend.mslice-owed Of.R (Syntax.tyRef (Syntax.named 0) Syntax.mut Of.tyBy) 0 3
+              (Row.lease (κs .0) (qs .0)),
+        ) (List._∷_ (3, Rows'.sc-here (Row.sInt Syntax.w32)) (List._∷_ (4, Rows'.any-gone (Syntax.tyInt Syntax.w64)) (List._∷_ (
+          5,
+          Rows'.any-gone (Syntax.tyInt Syntax.w64),
+        ) (List._∷_ (6, Rows'.any-gone (Syntax.tyArray (Syntax.tyArray (Syntax.tyInt Syntax.w32) 3) 256)) (List._∷_ (
+          7,
+          Rows.arr-owed (Array'.Array (Referent.rtF (Referent.fInt Syntax.w32)) 3) 4096 4,
+        ) (List._∷_ (8, Rows'.any-gone Syntax.tyBool) (List._∷_ (
+          9,
+          Rows'.any-gone
+              (Syntax.tyEnum (List._∷_ 114 (List._∷_ 101 (List._∷_ 102 (List._∷_ 117 (List._∷_ 115 (List._∷_ 97 (List._∷_ 108 (List._∷_ 58 (List._∷_ 58 (List._∷_ 82 (List._∷_ 101
+              (List._∷_ 102 (List._∷_ 117 (List._∷_ 115 (List._∷_ 97 (List._∷_ 108 List.[])))))))))))))))) (Syntax.ttcons Syntax.tnil (Syntax.ttcons Syntax.tnil (Syntax.ttcons
+              Syntax.tnil (Syntax.ttcons Syntax.tnil (Syntax.ttcons Syntax.tnil (Syntax.ttcons Syntax.tnil (Syntax.ttcons Syntax.tnil (Syntax.ttcons Syntax.tnil (Syntax.ttcons
+              Syntax.tnil (Syntax.ttcons Syntax.tnil (Syntax.ttcons Syntax.tnil (Syntax.ttcons Syntax.tnil Syntax.ttnil))))))))))))),
+        ) (List._∷_ (
+          10,
+          Rows'.any-gone (Syntax.tyArray
+              (Syntax.tyInt Syntax.w32) 3),
+        ) (List._∷_ (11, Rows'.any-gone (Syntax.tyRef Syntax.erased Syntax.mut Of.tyBy)) (List._∷_ (
+          12,
+          Rows'.any-gone (Syntax.tyStruct
+              (List._∷_ 38 (List._∷_ 91 (List._∷_ 93 List.[]))) (Syntax.tcons (Syntax.tyRef Syntax.erased Syntax.mut Of.tyBy) (Syntax.tcons (Syntax.tyInt Syntax.w64) Syntax.tnil))),
+        ) (List._∷_ (13, Rows'.any-gone (Syntax.tyRef Syntax.erased Syntax.mut (Syntax.tyArray (Syntax.tyArray (Syntax.tyInt Syntax.w32) 3) 256))) (List._∷_ (
+          14,
+          Rows'.any-gone (Syntax.tyStruct (List._∷_ 38 (List._∷_ 91 (List._∷_ 93 List.[]))) (Syntax.tcons (Syntax.tyRef Syntax.erased Syntax.mut (Syntax.tyArray (Syntax.tyInt
+              Syntax.w32) 3)) (Syntax.tcons (Syntax.tyInt Syntax.w64) Syntax.tnil))),
+        ) (List._∷_ (15, Rows'.any-gone (Syntax.tyArray (Syntax.tyInt Syntax.w32) 3))
+            List.[])))))))))))))))
 
         abbrev G0 : Row.Cx
         G0 = record { locals = List._++_ t0 t1; slots = List._∷_ (Row.lease (κs .0) (qs .0)) (List._∷_ Row.off (List._∷_ Row.off (List._∷_ Row.off (List._∷_ Row.off List.[])))) }
@@ -3899,31 +3907,90 @@ module _ (claims· : Claims) where
               100 (List._∷_ 95 (List._∷_ 107 (List._∷_ 104 (List._∷_ 97 (List._∷_ 110 (List._∷_ 110 (List._∷_ 97 (List._∷_ 58 (List._∷_ 58 (List._∷_ 73 (List._∷_ 110 (List._∷_ 115
               (List._∷_ 101 (List._∷_ 114 (List._∷_ 116 (List._∷_ 101 (List._∷_ 100 List.[])))))))))))))))))))))))))) (Syntax.ttcons (Syntax.tcons (Syntax.tyStruct (List._∷_ 103
               (List._∷_ 114 (List._∷_ 101 (List._∷_ 101 (List._∷_ 110 (List._∷_ 119 (List._∷_ 97 (List._∷_ 108 (List._∷_ 100 (List._∷_ 95 (List._∷_ 107 (List._∷_ 104 (List._∷_ 97
-              (List._∷_ 110 (List._∷_ 110 (List._∷_ 97 (List._∷_ 58 (List._∷_ 58 (List._∷_ 83 (List._∷_ 116 (List._∷_ 114 (List._∷_ 101 (List._∷_ 97 (List._∷_ 109
-              List.[])))))))))))))))))))))))) (Syntax.tcons (Syntax.tyStruct (List._∷_ 102 (List._∷_ 114 (List._∷_ 97 (List._∷_ 99 (List._∷_ 116 (List._∷_ 105 (List._∷_ 111
-              (List._∷_ 110 (List._∷_ 58 (List._∷_ 58 (List._∷_ 70 (List._∷_ 114 (List._∷_ 97 (List._∷_ 99 (List._∷_ 116 (List._∷_ 105 (List._∷_ 111 (List._∷_ 110
-              List.[])))))))))))))))))) (Syntax.tcons (Syntax.tyInt Syntax.w32) (Syntax.tcons (Syntax.tyInt Syntax.w32) Syntax.tnil))) (Syntax.tcons (Syntax.tyInt Syntax.w32)
-              (Syntax.tcons (Syntax.tyInt Syntax.w32) Syntax.tnil)))) Syntax.tnil) (Syntax.ttcons (Syntax.tcons (Syntax.tyEnum (List._∷_ 114 (List._∷_ 101 (List._∷_ 102 (List._∷_
-              117 (List._∷_ 115 (List._∷_ 97 (List._∷_ 108 (List._∷_ 58 (List._∷_ 58 (List._∷_ 82 (List._∷_ 101 (List._∷_ 102 (List._∷_ 117 (List._∷_ 115 (List._∷_ 97 (List._∷_ 108
-              List.[])))))))))))))))) (Syntax.ttcons Syntax.tnil (Syntax.ttcons Syntax.tnil (Syntax.ttcons Syntax.tnil (Syntax.ttcons Syntax.tnil (Syntax.ttcons Syntax.tnil
-              (Syntax.ttcons Syntax.tnil (Syntax.ttcons Syntax.tnil (Syntax.ttcons Syntax.tnil (Syntax.ttcons Syntax.tnil (Syntax.ttcons Syntax.tnil (Syntax.ttcons Syntax.tnil
-              (Syntax.ttcons Syntax.tnil Syntax.ttnil))))))))))))) Syntax.tnil) Syntax.ttnil)))) (
+              (List._∷_ 110 (List._∷_ 110 (List._∷_ 97 (List._∷_ 95 (List._∷_ 115 (List._∷_ 116 (List._∷_ 101 (List._∷_ 112 (List._∷_ 115 (List._∷_ 58 (List._∷_ 58 (List._∷_ 83
+              (List._∷_ 116 (List._∷_ 114 (List._∷_ 101 (List._∷_ 97 (List._∷_ 109 List.[])))))))))))))))))))))))))))))) (Syntax.tcons (Syntax.tyStruct (List._∷_ 102 (List._∷_ 114
+              (List._∷_ 97 (List._∷_ 99 (List._∷_ 116 (List._∷_ 105 (List._∷_ 111 (List._∷_ 110 (List._∷_ 58 (List._∷_ 58 (List._∷_ 70 (List._∷_ 114 (List._∷_ 97 (List._∷_ 99
+              (List._∷_ 116 (List._∷_ 105 (List._∷_ 111 (List._∷_ 110 List.[])))))))))))))))))) (Syntax.tcons (Syntax.tyInt Syntax.w32) (Syntax.tcons (Syntax.tyInt Syntax.w32)
+              Syntax.tnil))) (Syntax.tcons (Syntax.tyInt Syntax.w32) (Syntax.tcons (Syntax.tyInt Syntax.w32) Syntax.tnil)))) Syntax.tnil) (Syntax.ttcons (Syntax.tcons
+              (Syntax.tyEnum (List._∷_ 114 (List._∷_ 101 (List._∷_ 102 (List._∷_ 117 (List._∷_ 115 (List._∷_ 97 (List._∷_ 108 (List._∷_ 58 (List._∷_ 58 (List._∷_ 82 (List._∷_ 101
+              (List._∷_ 102 (List._∷_ 117 (List._∷_ 115 (List._∷_ 97 (List._∷_ 108 List.[])))))))))))))))) (Syntax.ttcons Syntax.tnil (Syntax.ttcons Syntax.tnil (Syntax.ttcons
+              Syntax.tnil (Syntax.ttcons Syntax.tnil (Syntax.ttcons Syntax.tnil (Syntax.ttcons Syntax.tnil (Syntax.ttcons Syntax.tnil (Syntax.ttcons Syntax.tnil (Syntax.ttcons
+              Syntax.tnil (Syntax.ttcons Syntax.tnil (Syntax.ttcons Syntax.tnil (Syntax.ttcons Syntax.tnil Syntax.ttnil))))))))))))) Syntax.tnil) Syntax.ttnil)))) (
                 tt,
-                (
-                  (Whole.reads-enum 𝓤 H A W Refusal.the-type Laws''.the-laws, Path'.refl),
+                ((Whole.reads-enum 𝓤 H A W Refusal.the-type Laws''.the-laws, Path'.refl), tt),
+              ) Path'.refl (λ m wa. Make.made-val Inserted.the-type Laws.the-laws (List._∷_
+              (Laws'3.val Refusal.the-type Laws''.the-laws (m .1 .1 .1 .1 .1 .1 .1 .1 .1 .0)) List.[]) (Inserted.enum .make (Logic.inr (Logic.inl (
+                m .1 .1 .1 .1 .1 .1 .1 .1 .1 .0,
+                tt,
+              )))) (
+                Signed.made-wt Refusal.the-field Laws''.the-field-laws (Whole.enum-wt Refusal.the-type Laws''.the-laws (
                   tt,
-                ),
-              ) Path'.refl (λ m wa. Make.made-val Inserted.the-type Laws.the-laws (List._∷_ (Laws'3.val Refusal.the-type Laws''.the-laws (m .1 .1 .1 .1 .1 .1 .1 .1 .1 .0))
-              List.[]) (Inserted.enum .make (Logic.inr (Logic.inl (m .1 .1 .1 .1 .1 .1 .1 .1 .1 .0, tt)))) (
-                Signed.made-wt Refusal.the-field Laws''.the-field-laws (Whole.enum-wt
-                    Refusal.the-type Laws''.the-laws (tt, (tt, (tt, (tt, (tt, (tt, (tt, (tt, (tt, (tt, (tt, (tt, tt))))))))))))) (Refusal.the-type .to (m .1 .1 .1 .1 .1 .1 .1 .1 .1
-                    .0)),
+                  (
+                    tt,
+                    (
+                      tt,
+                      (
+                        tt,
+                        (
+                          tt,
+                          (
+                            tt,
+                            (
+                              tt,
+                              (
+                                tt,
+                                (
+                                  tt,
+                                  (
+                                    tt,
+                                    (tt, (tt, tt)),
+                                  ),
+                                ),
+                              ),
+                            ),
+                          ),
+                        ),
+                      ),
+                    ),
+                  ),
+                )) (Refusal.the-type .to (m .1 .1 .1 .1 .1 .1 .1 .1 .1 .0)),
                 tt,
-              ) (wa .1)) λ m wa. Make.made-is Inserted.the-type Laws.the-laws (List._∷_ (Laws'3.val Refusal.the-type Laws''.the-laws (m .1 .1 .1 .1 .1 .1 .1 .1 .1 .0))
-              List.[]) (Inserted.enum .make (Logic.inr (Logic.inl (m .1 .1 .1 .1 .1 .1 .1 .1 .1 .0, tt)))) (
-                Signed.made-wt Refusal.the-field Laws''.the-field-laws (Whole.enum-wt
-                    Refusal.the-type Laws''.the-laws (tt, (tt, (tt, (tt, (tt, (tt, (tt, (tt, (tt, (tt, (tt, (tt, tt))))))))))))) (Refusal.the-type .to (m .1 .1 .1 .1 .1 .1 .1 .1 .1
-                    .0)),
+              ) (wa .1)) λ m wa. Make.made-is Inserted.the-type Laws.the-laws (List._∷_
+              (Laws'3.val Refusal.the-type Laws''.the-laws (m .1 .1 .1 .1 .1 .1 .1 .1 .1 .0)) List.[]) (Inserted.enum .make (Logic.inr (Logic.inl (
+                m .1 .1 .1 .1 .1 .1 .1 .1 .1 .0,
+                tt,
+              )))) (
+                Signed.made-wt Refusal.the-field Laws''.the-field-laws (Whole.enum-wt Refusal.the-type Laws''.the-laws (
+                  tt,
+                  (
+                    tt,
+                    (
+                      tt,
+                      (
+                        tt,
+                        (
+                          tt,
+                          (
+                            tt,
+                            (
+                              tt,
+                              (
+                                tt,
+                                (
+                                  tt,
+                                  (
+                                    tt,
+                                    (tt, (tt, tt)),
+                                  ),
+                                ),
+                              ),
+                            ),
+                          ),
+                        ),
+                      ),
+                    ),
+                  ),
+                )) (Refusal.the-type .to (m .1 .1 .1 .1 .1 .1 .1 .1 .1 .0)),
                 tt,
               ) (wa .1)) d3
 
@@ -3942,16 +4009,17 @@ module _ (claims· : Claims) where
           d7 : Typed.Typed 𝓤 H A 𝓣 E G3 b6 Δ1 (at7 bs)
           d7 = Typed.g-pre 𝓤 H A W 𝓣 E G3 G5 b6 Δ1 (Typed.pass T3 T5 (s2 bs)) (at6 bs) (Scalar.g-room 𝓤 H A W E G3 1 (Syntax.tyStruct (List._∷_ 103 (List._∷_ 114 (List._∷_ 101
               (List._∷_ 101 (List._∷_ 110 (List._∷_ 119 (List._∷_ 97 (List._∷_ 108 (List._∷_ 100 (List._∷_ 95 (List._∷_ 107 (List._∷_ 104 (List._∷_ 97 (List._∷_ 110 (List._∷_ 110
-              (List._∷_ 97 (List._∷_ 58 (List._∷_ 58 (List._∷_ 83 (List._∷_ 116 (List._∷_ 114 (List._∷_ 101 (List._∷_ 97 (List._∷_ 109 List.[])))))))))))))))))))))))) (Syntax.tcons
-              (Syntax.tyStruct (List._∷_ 102 (List._∷_ 114 (List._∷_ 97 (List._∷_ 99 (List._∷_ 116 (List._∷_ 105 (List._∷_ 111 (List._∷_ 110 (List._∷_ 58 (List._∷_ 58 (List._∷_ 70
-              (List._∷_ 114 (List._∷_ 97 (List._∷_ 99 (List._∷_ 116 (List._∷_ 105 (List._∷_ 111 (List._∷_ 110 List.[])))))))))))))))))) (Syntax.tcons (Syntax.tyInt Syntax.w32)
-              (Syntax.tcons (Syntax.tyInt Syntax.w32) Syntax.tnil))) (Syntax.tcons (Syntax.tyInt Syntax.w32) (Syntax.tcons (Syntax.tyInt Syntax.w32) Syntax.tnil))))
-              (Local.room-whole 𝓤 H A W (Declared'.row Stream.the-type) (Syntax.tyStruct (List._∷_ 103 (List._∷_ 114 (List._∷_ 101 (List._∷_ 101 (List._∷_ 110 (List._∷_ 119
-              (List._∷_ 97 (List._∷_ 108 (List._∷_ 100 (List._∷_ 95 (List._∷_ 107 (List._∷_ 104 (List._∷_ 97 (List._∷_ 110 (List._∷_ 110 (List._∷_ 97 (List._∷_ 58 (List._∷_ 58
-              (List._∷_ 83 (List._∷_ 116 (List._∷_ 114 (List._∷_ 101 (List._∷_ 97 (List._∷_ 109 List.[])))))))))))))))))))))))) (Syntax.tcons (Syntax.tyStruct (List._∷_ 102
-              (List._∷_ 114 (List._∷_ 97 (List._∷_ 99 (List._∷_ 116 (List._∷_ 105 (List._∷_ 111 (List._∷_ 110 (List._∷_ 58 (List._∷_ 58 (List._∷_ 70 (List._∷_ 114 (List._∷_ 97
-              (List._∷_ 99 (List._∷_ 116 (List._∷_ 105 (List._∷_ 111 (List._∷_ 110 List.[])))))))))))))))))) (Syntax.tcons (Syntax.tyInt Syntax.w32) (Syntax.tcons (Syntax.tyInt
-              Syntax.w32) Syntax.tnil))) (Syntax.tcons (Syntax.tyInt Syntax.w32) (Syntax.tcons (Syntax.tyInt Syntax.w32) Syntax.tnil)))) Path'.refl)) d6
+              (List._∷_ 97 (List._∷_ 95 (List._∷_ 115 (List._∷_ 116 (List._∷_ 101 (List._∷_ 112 (List._∷_ 115 (List._∷_ 58 (List._∷_ 58 (List._∷_ 83 (List._∷_ 116 (List._∷_ 114
+              (List._∷_ 101 (List._∷_ 97 (List._∷_ 109 List.[])))))))))))))))))))))))))))))) (Syntax.tcons (Syntax.tyStruct (List._∷_ 102 (List._∷_ 114 (List._∷_ 97 (List._∷_ 99
+              (List._∷_ 116 (List._∷_ 105 (List._∷_ 111 (List._∷_ 110 (List._∷_ 58 (List._∷_ 58 (List._∷_ 70 (List._∷_ 114 (List._∷_ 97 (List._∷_ 99 (List._∷_ 116 (List._∷_ 105
+              (List._∷_ 111 (List._∷_ 110 List.[])))))))))))))))))) (Syntax.tcons (Syntax.tyInt Syntax.w32) (Syntax.tcons (Syntax.tyInt Syntax.w32) Syntax.tnil))) (Syntax.tcons
+              (Syntax.tyInt Syntax.w32) (Syntax.tcons (Syntax.tyInt Syntax.w32) Syntax.tnil)))) (Local.room-whole 𝓤 H A W (Declared'.row Stream.the-type) (Syntax.tyStruct (List._∷_
+              103 (List._∷_ 114 (List._∷_ 101 (List._∷_ 101 (List._∷_ 110 (List._∷_ 119 (List._∷_ 97 (List._∷_ 108 (List._∷_ 100 (List._∷_ 95 (List._∷_ 107 (List._∷_ 104 (List._∷_
+              97 (List._∷_ 110 (List._∷_ 110 (List._∷_ 97 (List._∷_ 95 (List._∷_ 115 (List._∷_ 116 (List._∷_ 101 (List._∷_ 112 (List._∷_ 115 (List._∷_ 58 (List._∷_ 58 (List._∷_ 83
+              (List._∷_ 116 (List._∷_ 114 (List._∷_ 101 (List._∷_ 97 (List._∷_ 109 List.[])))))))))))))))))))))))))))))) (Syntax.tcons (Syntax.tyStruct (List._∷_ 102 (List._∷_ 114
+              (List._∷_ 97 (List._∷_ 99 (List._∷_ 116 (List._∷_ 105 (List._∷_ 111 (List._∷_ 110 (List._∷_ 58 (List._∷_ 58 (List._∷_ 70 (List._∷_ 114 (List._∷_ 97 (List._∷_ 99
+              (List._∷_ 116 (List._∷_ 105 (List._∷_ 111 (List._∷_ 110 List.[])))))))))))))))))) (Syntax.tcons (Syntax.tyInt Syntax.w32) (Syntax.tcons (Syntax.tyInt Syntax.w32)
+              Syntax.tnil))) (Syntax.tcons (Syntax.tyInt Syntax.w32) (Syntax.tcons (Syntax.tyInt Syntax.w32) Syntax.tnil)))) Path'.refl)) d6
 
           d8 : Typed.Typed 𝓤 H A 𝓣 E G12 b7 Δ1 (at8 bs)
           d8 = Typed.t-skip 𝓤 H A W 𝓣 E Δ1 tt
@@ -4008,16 +4076,17 @@ module _ (claims· : Claims) where
           d22 : Typed.Typed 𝓤 H A 𝓣 E G28 b18 Δ2 (at22 bs)
           d22 = Typed.g-pre 𝓤 H A W 𝓣 E G28 G29 b18 Δ2 (Typed.pass T28 T29 (s25 bs)) (at21 bs) (Scalar.g-room 𝓤 H A W E G28 1 (Syntax.tyStruct (List._∷_ 103 (List._∷_ 114 (List._∷_
               101 (List._∷_ 101 (List._∷_ 110 (List._∷_ 119 (List._∷_ 97 (List._∷_ 108 (List._∷_ 100 (List._∷_ 95 (List._∷_ 107 (List._∷_ 104 (List._∷_ 97 (List._∷_ 110 (List._∷_
-              110 (List._∷_ 97 (List._∷_ 58 (List._∷_ 58 (List._∷_ 83 (List._∷_ 116 (List._∷_ 114 (List._∷_ 101 (List._∷_ 97 (List._∷_ 109 List.[]))))))))))))))))))))))))
-              (Syntax.tcons (Syntax.tyStruct (List._∷_ 102 (List._∷_ 114 (List._∷_ 97 (List._∷_ 99 (List._∷_ 116 (List._∷_ 105 (List._∷_ 111 (List._∷_ 110 (List._∷_ 58 (List._∷_ 58
-              (List._∷_ 70 (List._∷_ 114 (List._∷_ 97 (List._∷_ 99 (List._∷_ 116 (List._∷_ 105 (List._∷_ 111 (List._∷_ 110 List.[])))))))))))))))))) (Syntax.tcons (Syntax.tyInt
-              Syntax.w32) (Syntax.tcons (Syntax.tyInt Syntax.w32) Syntax.tnil))) (Syntax.tcons (Syntax.tyInt Syntax.w32) (Syntax.tcons (Syntax.tyInt Syntax.w32) Syntax.tnil))))
-              (Local.room-whole 𝓤 H A W (Declared'.row Stream.the-type) (Syntax.tyStruct (List._∷_ 103 (List._∷_ 114 (List._∷_ 101 (List._∷_ 101 (List._∷_ 110 (List._∷_ 119
-              (List._∷_ 97 (List._∷_ 108 (List._∷_ 100 (List._∷_ 95 (List._∷_ 107 (List._∷_ 104 (List._∷_ 97 (List._∷_ 110 (List._∷_ 110 (List._∷_ 97 (List._∷_ 58 (List._∷_ 58
-              (List._∷_ 83 (List._∷_ 116 (List._∷_ 114 (List._∷_ 101 (List._∷_ 97 (List._∷_ 109 List.[])))))))))))))))))))))))) (Syntax.tcons (Syntax.tyStruct (List._∷_ 102
-              (List._∷_ 114 (List._∷_ 97 (List._∷_ 99 (List._∷_ 116 (List._∷_ 105 (List._∷_ 111 (List._∷_ 110 (List._∷_ 58 (List._∷_ 58 (List._∷_ 70 (List._∷_ 114 (List._∷_ 97
-              (List._∷_ 99 (List._∷_ 116 (List._∷_ 105 (List._∷_ 111 (List._∷_ 110 List.[])))))))))))))))))) (Syntax.tcons (Syntax.tyInt Syntax.w32) (Syntax.tcons (Syntax.tyInt
-              Syntax.w32) Syntax.tnil))) (Syntax.tcons (Syntax.tyInt Syntax.w32) (Syntax.tcons (Syntax.tyInt Syntax.w32) Syntax.tnil)))) Path'.refl)) d21
+              110 (List._∷_ 97 (List._∷_ 95 (List._∷_ 115 (List._∷_ 116 (List._∷_ 101 (List._∷_ 112 (List._∷_ 115 (List._∷_ 58 (List._∷_ 58 (List._∷_ 83 (List._∷_ 116 (List._∷_ 114
+              (List._∷_ 101 (List._∷_ 97 (List._∷_ 109 List.[])))))))))))))))))))))))))))))) (Syntax.tcons (Syntax.tyStruct (List._∷_ 102 (List._∷_ 114 (List._∷_ 97 (List._∷_ 99
+              (List._∷_ 116 (List._∷_ 105 (List._∷_ 111 (List._∷_ 110 (List._∷_ 58 (List._∷_ 58 (List._∷_ 70 (List._∷_ 114 (List._∷_ 97 (List._∷_ 99 (List._∷_ 116 (List._∷_ 105
+              (List._∷_ 111 (List._∷_ 110 List.[])))))))))))))))))) (Syntax.tcons (Syntax.tyInt Syntax.w32) (Syntax.tcons (Syntax.tyInt Syntax.w32) Syntax.tnil))) (Syntax.tcons
+              (Syntax.tyInt Syntax.w32) (Syntax.tcons (Syntax.tyInt Syntax.w32) Syntax.tnil)))) (Local.room-whole 𝓤 H A W (Declared'.row Stream.the-type) (Syntax.tyStruct (List._∷_
+              103 (List._∷_ 114 (List._∷_ 101 (List._∷_ 101 (List._∷_ 110 (List._∷_ 119 (List._∷_ 97 (List._∷_ 108 (List._∷_ 100 (List._∷_ 95 (List._∷_ 107 (List._∷_ 104 (List._∷_
+              97 (List._∷_ 110 (List._∷_ 110 (List._∷_ 97 (List._∷_ 95 (List._∷_ 115 (List._∷_ 116 (List._∷_ 101 (List._∷_ 112 (List._∷_ 115 (List._∷_ 58 (List._∷_ 58 (List._∷_ 83
+              (List._∷_ 116 (List._∷_ 114 (List._∷_ 101 (List._∷_ 97 (List._∷_ 109 List.[])))))))))))))))))))))))))))))) (Syntax.tcons (Syntax.tyStruct (List._∷_ 102 (List._∷_ 114
+              (List._∷_ 97 (List._∷_ 99 (List._∷_ 116 (List._∷_ 105 (List._∷_ 111 (List._∷_ 110 (List._∷_ 58 (List._∷_ 58 (List._∷_ 70 (List._∷_ 114 (List._∷_ 97 (List._∷_ 99
+              (List._∷_ 116 (List._∷_ 105 (List._∷_ 111 (List._∷_ 110 List.[])))))))))))))))))) (Syntax.tcons (Syntax.tyInt Syntax.w32) (Syntax.tcons (Syntax.tyInt Syntax.w32)
+              Syntax.tnil))) (Syntax.tcons (Syntax.tyInt Syntax.w32) (Syntax.tcons (Syntax.tyInt Syntax.w32) Syntax.tnil)))) Path'.refl)) d21
 
           d23 : Typed.Typed 𝓤 H A 𝓣 E G27 b19 Δ2 (at23 bs)
           d23 = Typed.s-seq 𝓤 H A W 𝓣 E G27 G28 b17 b18 Δ2 (Typed.both (s24 bs)) (at22 bs) (Plain.t-call-plain 𝓤 H A W 𝓣 2 ps·1 r·1 (claims· .2) (claims· .3)
@@ -4072,16 +4141,16 @@ module _ (claims· : Claims) where
               (List._∷_ 101 (List._∷_ 110 (List._∷_ 119 (List._∷_ 97 (List._∷_ 108 (List._∷_ 100 (List._∷_ 95 (List._∷_ 107 (List._∷_ 104 (List._∷_ 97 (List._∷_ 110 (List._∷_ 110
               (List._∷_ 97 (List._∷_ 58 (List._∷_ 58 (List._∷_ 73 (List._∷_ 110 (List._∷_ 115 (List._∷_ 101 (List._∷_ 114 (List._∷_ 116 (List._∷_ 101 (List._∷_ 100
               List.[])))))))))))))))))))))))))) (Syntax.ttcons (Syntax.tcons (Syntax.tyStruct (List._∷_ 103 (List._∷_ 114 (List._∷_ 101 (List._∷_ 101 (List._∷_ 110 (List._∷_ 119
-              (List._∷_ 97 (List._∷_ 108 (List._∷_ 100 (List._∷_ 95 (List._∷_ 107 (List._∷_ 104 (List._∷_ 97 (List._∷_ 110 (List._∷_ 110 (List._∷_ 97 (List._∷_ 58 (List._∷_ 58
-              (List._∷_ 83 (List._∷_ 116 (List._∷_ 114 (List._∷_ 101 (List._∷_ 97 (List._∷_ 109 List.[])))))))))))))))))))))))) (Syntax.tcons (Syntax.tyStruct (List._∷_ 102
-              (List._∷_ 114 (List._∷_ 97 (List._∷_ 99 (List._∷_ 116 (List._∷_ 105 (List._∷_ 111 (List._∷_ 110 (List._∷_ 58 (List._∷_ 58 (List._∷_ 70 (List._∷_ 114 (List._∷_ 97
-              (List._∷_ 99 (List._∷_ 116 (List._∷_ 105 (List._∷_ 111 (List._∷_ 110 List.[])))))))))))))))))) (Syntax.tcons (Syntax.tyInt Syntax.w32) (Syntax.tcons (Syntax.tyInt
-              Syntax.w32) Syntax.tnil))) (Syntax.tcons (Syntax.tyInt Syntax.w32) (Syntax.tcons (Syntax.tyInt Syntax.w32) Syntax.tnil)))) Syntax.tnil) (Syntax.ttcons (Syntax.tcons
-              (Syntax.tyEnum (List._∷_ 114 (List._∷_ 101 (List._∷_ 102 (List._∷_ 117 (List._∷_ 115 (List._∷_ 97 (List._∷_ 108 (List._∷_ 58 (List._∷_ 58 (List._∷_ 82 (List._∷_ 101
-              (List._∷_ 102 (List._∷_ 117 (List._∷_ 115 (List._∷_ 97 (List._∷_ 108 List.[])))))))))))))))) (Syntax.ttcons Syntax.tnil (Syntax.ttcons Syntax.tnil (Syntax.ttcons
-              Syntax.tnil (Syntax.ttcons Syntax.tnil (Syntax.ttcons Syntax.tnil (Syntax.ttcons Syntax.tnil (Syntax.ttcons Syntax.tnil (Syntax.ttcons Syntax.tnil (Syntax.ttcons
-              Syntax.tnil (Syntax.ttcons Syntax.tnil (Syntax.ttcons Syntax.tnil (Syntax.ttcons Syntax.tnil Syntax.ttnil))))))))))))) Syntax.tnil) Syntax.ttnil)))) (tt, (tt, tt))
-              Path'.refl) d22
+              (List._∷_ 97 (List._∷_ 108 (List._∷_ 100 (List._∷_ 95 (List._∷_ 107 (List._∷_ 104 (List._∷_ 97 (List._∷_ 110 (List._∷_ 110 (List._∷_ 97 (List._∷_ 95 (List._∷_ 115
+              (List._∷_ 116 (List._∷_ 101 (List._∷_ 112 (List._∷_ 115 (List._∷_ 58 (List._∷_ 58 (List._∷_ 83 (List._∷_ 116 (List._∷_ 114 (List._∷_ 101 (List._∷_ 97 (List._∷_ 109
+              List.[])))))))))))))))))))))))))))))) (Syntax.tcons (Syntax.tyStruct (List._∷_ 102 (List._∷_ 114 (List._∷_ 97 (List._∷_ 99 (List._∷_ 116 (List._∷_ 105 (List._∷_ 111
+              (List._∷_ 110 (List._∷_ 58 (List._∷_ 58 (List._∷_ 70 (List._∷_ 114 (List._∷_ 97 (List._∷_ 99 (List._∷_ 116 (List._∷_ 105 (List._∷_ 111 (List._∷_ 110
+              List.[])))))))))))))))))) (Syntax.tcons (Syntax.tyInt Syntax.w32) (Syntax.tcons (Syntax.tyInt Syntax.w32) Syntax.tnil))) (Syntax.tcons (Syntax.tyInt Syntax.w32)
+              (Syntax.tcons (Syntax.tyInt Syntax.w32) Syntax.tnil)))) Syntax.tnil) (Syntax.ttcons (Syntax.tcons (Syntax.tyEnum (List._∷_ 114 (List._∷_ 101 (List._∷_ 102 (List._∷_
+              117 (List._∷_ 115 (List._∷_ 97 (List._∷_ 108 (List._∷_ 58 (List._∷_ 58 (List._∷_ 82 (List._∷_ 101 (List._∷_ 102 (List._∷_ 117 (List._∷_ 115 (List._∷_ 97 (List._∷_ 108
+              List.[])))))))))))))))) (Syntax.ttcons Syntax.tnil (Syntax.ttcons Syntax.tnil (Syntax.ttcons Syntax.tnil (Syntax.ttcons Syntax.tnil (Syntax.ttcons Syntax.tnil
+              (Syntax.ttcons Syntax.tnil (Syntax.ttcons Syntax.tnil (Syntax.ttcons Syntax.tnil (Syntax.ttcons Syntax.tnil (Syntax.ttcons Syntax.tnil (Syntax.ttcons Syntax.tnil
+              (Syntax.ttcons Syntax.tnil Syntax.ttnil))))))))))))) Syntax.tnil) Syntax.ttnil)))) (tt, (tt, tt)) Path'.refl) d22
 
           d24 : Typed.Typed 𝓤 H A 𝓣 E G26 b20 Δ2 (at24 bs)
           d24 = Typed.s-seq 𝓤 H A W 𝓣 E G26 G27 b16 b19 Δ2 (Typed.ask (s23 bs)) (at23 bs) (Relend.t-sl-aggregate 𝓤 H A W E (Array'.Array (Referent.rtF (Referent.fInt Syntax.w32))
@@ -4281,16 +4350,17 @@ module _ (claims· : Claims) where
           d50 : Typed.Typed 𝓤 H A 𝓣 E G52 b35 Δ0 (at50 bs)
           d50 = Typed.g-pre 𝓤 H A W 𝓣 E G52 G53 b35 Δ0 (Typed.pass T52 T53 (s49 bs)) (at49 bs) (Scalar.g-room 𝓤 H A W E G52 1 (Syntax.tyStruct (List._∷_ 103 (List._∷_ 114 (List._∷_
               101 (List._∷_ 101 (List._∷_ 110 (List._∷_ 119 (List._∷_ 97 (List._∷_ 108 (List._∷_ 100 (List._∷_ 95 (List._∷_ 107 (List._∷_ 104 (List._∷_ 97 (List._∷_ 110 (List._∷_
-              110 (List._∷_ 97 (List._∷_ 58 (List._∷_ 58 (List._∷_ 83 (List._∷_ 116 (List._∷_ 114 (List._∷_ 101 (List._∷_ 97 (List._∷_ 109 List.[]))))))))))))))))))))))))
-              (Syntax.tcons (Syntax.tyStruct (List._∷_ 102 (List._∷_ 114 (List._∷_ 97 (List._∷_ 99 (List._∷_ 116 (List._∷_ 105 (List._∷_ 111 (List._∷_ 110 (List._∷_ 58 (List._∷_ 58
-              (List._∷_ 70 (List._∷_ 114 (List._∷_ 97 (List._∷_ 99 (List._∷_ 116 (List._∷_ 105 (List._∷_ 111 (List._∷_ 110 List.[])))))))))))))))))) (Syntax.tcons (Syntax.tyInt
-              Syntax.w32) (Syntax.tcons (Syntax.tyInt Syntax.w32) Syntax.tnil))) (Syntax.tcons (Syntax.tyInt Syntax.w32) (Syntax.tcons (Syntax.tyInt Syntax.w32) Syntax.tnil))))
-              (Local.room-whole 𝓤 H A W (Declared'.row Stream.the-type) (Syntax.tyStruct (List._∷_ 103 (List._∷_ 114 (List._∷_ 101 (List._∷_ 101 (List._∷_ 110 (List._∷_ 119
-              (List._∷_ 97 (List._∷_ 108 (List._∷_ 100 (List._∷_ 95 (List._∷_ 107 (List._∷_ 104 (List._∷_ 97 (List._∷_ 110 (List._∷_ 110 (List._∷_ 97 (List._∷_ 58 (List._∷_ 58
-              (List._∷_ 83 (List._∷_ 116 (List._∷_ 114 (List._∷_ 101 (List._∷_ 97 (List._∷_ 109 List.[])))))))))))))))))))))))) (Syntax.tcons (Syntax.tyStruct (List._∷_ 102
-              (List._∷_ 114 (List._∷_ 97 (List._∷_ 99 (List._∷_ 116 (List._∷_ 105 (List._∷_ 111 (List._∷_ 110 (List._∷_ 58 (List._∷_ 58 (List._∷_ 70 (List._∷_ 114 (List._∷_ 97
-              (List._∷_ 99 (List._∷_ 116 (List._∷_ 105 (List._∷_ 111 (List._∷_ 110 List.[])))))))))))))))))) (Syntax.tcons (Syntax.tyInt Syntax.w32) (Syntax.tcons (Syntax.tyInt
-              Syntax.w32) Syntax.tnil))) (Syntax.tcons (Syntax.tyInt Syntax.w32) (Syntax.tcons (Syntax.tyInt Syntax.w32) Syntax.tnil)))) Path'.refl)) d49
+              110 (List._∷_ 97 (List._∷_ 95 (List._∷_ 115 (List._∷_ 116 (List._∷_ 101 (List._∷_ 112 (List._∷_ 115 (List._∷_ 58 (List._∷_ 58 (List._∷_ 83 (List._∷_ 116 (List._∷_ 114
+              (List._∷_ 101 (List._∷_ 97 (List._∷_ 109 List.[])))))))))))))))))))))))))))))) (Syntax.tcons (Syntax.tyStruct (List._∷_ 102 (List._∷_ 114 (List._∷_ 97 (List._∷_ 99
+              (List._∷_ 116 (List._∷_ 105 (List._∷_ 111 (List._∷_ 110 (List._∷_ 58 (List._∷_ 58 (List._∷_ 70 (List._∷_ 114 (List._∷_ 97 (List._∷_ 99 (List._∷_ 116 (List._∷_ 105
+              (List._∷_ 111 (List._∷_ 110 List.[])))))))))))))))))) (Syntax.tcons (Syntax.tyInt Syntax.w32) (Syntax.tcons (Syntax.tyInt Syntax.w32) Syntax.tnil))) (Syntax.tcons
+              (Syntax.tyInt Syntax.w32) (Syntax.tcons (Syntax.tyInt Syntax.w32) Syntax.tnil)))) (Local.room-whole 𝓤 H A W (Declared'.row Stream.the-type) (Syntax.tyStruct (List._∷_
+              103 (List._∷_ 114 (List._∷_ 101 (List._∷_ 101 (List._∷_ 110 (List._∷_ 119 (List._∷_ 97 (List._∷_ 108 (List._∷_ 100 (List._∷_ 95 (List._∷_ 107 (List._∷_ 104 (List._∷_
+              97 (List._∷_ 110 (List._∷_ 110 (List._∷_ 97 (List._∷_ 95 (List._∷_ 115 (List._∷_ 116 (List._∷_ 101 (List._∷_ 112 (List._∷_ 115 (List._∷_ 58 (List._∷_ 58 (List._∷_ 83
+              (List._∷_ 116 (List._∷_ 114 (List._∷_ 101 (List._∷_ 97 (List._∷_ 109 List.[])))))))))))))))))))))))))))))) (Syntax.tcons (Syntax.tyStruct (List._∷_ 102 (List._∷_ 114
+              (List._∷_ 97 (List._∷_ 99 (List._∷_ 116 (List._∷_ 105 (List._∷_ 111 (List._∷_ 110 (List._∷_ 58 (List._∷_ 58 (List._∷_ 70 (List._∷_ 114 (List._∷_ 97 (List._∷_ 99
+              (List._∷_ 116 (List._∷_ 105 (List._∷_ 111 (List._∷_ 110 List.[])))))))))))))))))) (Syntax.tcons (Syntax.tyInt Syntax.w32) (Syntax.tcons (Syntax.tyInt Syntax.w32)
+              Syntax.tnil))) (Syntax.tcons (Syntax.tyInt Syntax.w32) (Syntax.tcons (Syntax.tyInt Syntax.w32) Syntax.tnil)))) Path'.refl)) d49
 
           d51 : Typed.Typed 𝓤 H A 𝓣 E G51 b36 Δ0 (at51 bs)
           d51 = Typed.s-seq 𝓤 H A W 𝓣 E G51 G52 b34 b35 Δ0 (Typed.both (s48 bs)) (at50 bs) (Plain.t-call-plain 𝓤 H A W 𝓣 2 ps·1 r·1 (claims· .2) (claims· .3)
@@ -4345,16 +4415,16 @@ module _ (claims· : Claims) where
               (List._∷_ 101 (List._∷_ 110 (List._∷_ 119 (List._∷_ 97 (List._∷_ 108 (List._∷_ 100 (List._∷_ 95 (List._∷_ 107 (List._∷_ 104 (List._∷_ 97 (List._∷_ 110 (List._∷_ 110
               (List._∷_ 97 (List._∷_ 58 (List._∷_ 58 (List._∷_ 73 (List._∷_ 110 (List._∷_ 115 (List._∷_ 101 (List._∷_ 114 (List._∷_ 116 (List._∷_ 101 (List._∷_ 100
               List.[])))))))))))))))))))))))))) (Syntax.ttcons (Syntax.tcons (Syntax.tyStruct (List._∷_ 103 (List._∷_ 114 (List._∷_ 101 (List._∷_ 101 (List._∷_ 110 (List._∷_ 119
-              (List._∷_ 97 (List._∷_ 108 (List._∷_ 100 (List._∷_ 95 (List._∷_ 107 (List._∷_ 104 (List._∷_ 97 (List._∷_ 110 (List._∷_ 110 (List._∷_ 97 (List._∷_ 58 (List._∷_ 58
-              (List._∷_ 83 (List._∷_ 116 (List._∷_ 114 (List._∷_ 101 (List._∷_ 97 (List._∷_ 109 List.[])))))))))))))))))))))))) (Syntax.tcons (Syntax.tyStruct (List._∷_ 102
-              (List._∷_ 114 (List._∷_ 97 (List._∷_ 99 (List._∷_ 116 (List._∷_ 105 (List._∷_ 111 (List._∷_ 110 (List._∷_ 58 (List._∷_ 58 (List._∷_ 70 (List._∷_ 114 (List._∷_ 97
-              (List._∷_ 99 (List._∷_ 116 (List._∷_ 105 (List._∷_ 111 (List._∷_ 110 List.[])))))))))))))))))) (Syntax.tcons (Syntax.tyInt Syntax.w32) (Syntax.tcons (Syntax.tyInt
-              Syntax.w32) Syntax.tnil))) (Syntax.tcons (Syntax.tyInt Syntax.w32) (Syntax.tcons (Syntax.tyInt Syntax.w32) Syntax.tnil)))) Syntax.tnil) (Syntax.ttcons (Syntax.tcons
-              (Syntax.tyEnum (List._∷_ 114 (List._∷_ 101 (List._∷_ 102 (List._∷_ 117 (List._∷_ 115 (List._∷_ 97 (List._∷_ 108 (List._∷_ 58 (List._∷_ 58 (List._∷_ 82 (List._∷_ 101
-              (List._∷_ 102 (List._∷_ 117 (List._∷_ 115 (List._∷_ 97 (List._∷_ 108 List.[])))))))))))))))) (Syntax.ttcons Syntax.tnil (Syntax.ttcons Syntax.tnil (Syntax.ttcons
-              Syntax.tnil (Syntax.ttcons Syntax.tnil (Syntax.ttcons Syntax.tnil (Syntax.ttcons Syntax.tnil (Syntax.ttcons Syntax.tnil (Syntax.ttcons Syntax.tnil (Syntax.ttcons
-              Syntax.tnil (Syntax.ttcons Syntax.tnil (Syntax.ttcons Syntax.tnil (Syntax.ttcons Syntax.tnil Syntax.ttnil))))))))))))) Syntax.tnil) Syntax.ttnil)))) (tt, (tt, tt))
-              Path'.refl) d50
+              (List._∷_ 97 (List._∷_ 108 (List._∷_ 100 (List._∷_ 95 (List._∷_ 107 (List._∷_ 104 (List._∷_ 97 (List._∷_ 110 (List._∷_ 110 (List._∷_ 97 (List._∷_ 95 (List._∷_ 115
+              (List._∷_ 116 (List._∷_ 101 (List._∷_ 112 (List._∷_ 115 (List._∷_ 58 (List._∷_ 58 (List._∷_ 83 (List._∷_ 116 (List._∷_ 114 (List._∷_ 101 (List._∷_ 97 (List._∷_ 109
+              List.[])))))))))))))))))))))))))))))) (Syntax.tcons (Syntax.tyStruct (List._∷_ 102 (List._∷_ 114 (List._∷_ 97 (List._∷_ 99 (List._∷_ 116 (List._∷_ 105 (List._∷_ 111
+              (List._∷_ 110 (List._∷_ 58 (List._∷_ 58 (List._∷_ 70 (List._∷_ 114 (List._∷_ 97 (List._∷_ 99 (List._∷_ 116 (List._∷_ 105 (List._∷_ 111 (List._∷_ 110
+              List.[])))))))))))))))))) (Syntax.tcons (Syntax.tyInt Syntax.w32) (Syntax.tcons (Syntax.tyInt Syntax.w32) Syntax.tnil))) (Syntax.tcons (Syntax.tyInt Syntax.w32)
+              (Syntax.tcons (Syntax.tyInt Syntax.w32) Syntax.tnil)))) Syntax.tnil) (Syntax.ttcons (Syntax.tcons (Syntax.tyEnum (List._∷_ 114 (List._∷_ 101 (List._∷_ 102 (List._∷_
+              117 (List._∷_ 115 (List._∷_ 97 (List._∷_ 108 (List._∷_ 58 (List._∷_ 58 (List._∷_ 82 (List._∷_ 101 (List._∷_ 102 (List._∷_ 117 (List._∷_ 115 (List._∷_ 97 (List._∷_ 108
+              List.[])))))))))))))))) (Syntax.ttcons Syntax.tnil (Syntax.ttcons Syntax.tnil (Syntax.ttcons Syntax.tnil (Syntax.ttcons Syntax.tnil (Syntax.ttcons Syntax.tnil
+              (Syntax.ttcons Syntax.tnil (Syntax.ttcons Syntax.tnil (Syntax.ttcons Syntax.tnil (Syntax.ttcons Syntax.tnil (Syntax.ttcons Syntax.tnil (Syntax.ttcons Syntax.tnil
+              (Syntax.ttcons Syntax.tnil Syntax.ttnil))))))))))))) Syntax.tnil) Syntax.ttnil)))) (tt, (tt, tt)) Path'.refl) d50
 
           d52 : Typed.Typed 𝓤 H A 𝓣 E G50 b37 Δ0 (at52 bs)
           d52 = Typed.s-seq 𝓤 H A W 𝓣 E G50 G51 b33 b36 Δ0 (Typed.ask (s47 bs)) (at51 bs) (Relend.t-sl-aggregate 𝓤 H A W E (Array'.Array (Referent.rtF (Referent.fInt Syntax.w32))

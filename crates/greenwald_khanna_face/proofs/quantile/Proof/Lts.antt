@@ -5,10 +5,10 @@ use Rattle.fraction.proofs.Fraction
 use Rattle.fraction.proofs.Fraction.Laws
 use Rattle.greenwald_khanna.proofs.Answer
 use Rattle.greenwald_khanna.proofs.Answer.Laws as Laws'
-use Rattle.greenwald_khanna.proofs.Stream
-use Rattle.greenwald_khanna.proofs.Stream.Laws as Laws''
 use Rattle.greenwald_khanna_face.proofs.parts.Question
-use Rattle.greenwald_khanna_face.proofs.parts.Question.Laws as Laws'3
+use Rattle.greenwald_khanna_face.proofs.parts.Question.Laws as Laws''
+use Rattle.greenwald_khanna_steps.proofs.Stream
+use Rattle.greenwald_khanna_steps.proofs.Stream.Laws as Laws'3
 use borrow.Author.Called
 use borrow.Enum.Make
 use borrow.Fn.Any
@@ -56,19 +56,19 @@ abbrev pub ps : List.List (Kinds.PK 1)
 ps = List._∷_ (Value.pVal record {
   ty = Declared'.row Stream.the-type;
   one = Path'.refl;
-  val = Laws'5.val Stream.the-type Laws''.the-laws;
+  val = Laws'5.val Stream.the-type Laws'3.the-laws;
   tells = Laws'5.tells Stream.the-type
-      Laws''.the-laws;
-  still = Laws'5.still Stream.the-type Laws''.the-copy Exit.yes;
+      Laws'3.the-laws;
+  still = Laws'5.still Stream.the-type Laws'3.the-copy Exit.yes;
   row = Rows.whole (Declared'.row Stream.the-type);
   rd = λ x. x;
   mk = λ x. x;
 } λ M 𝓤 H A W.
     record {
-      copies = Laws'5.copy Stream.the-type Laws''.the-copy 𝓤 H A W;
-      lawful = Laws'5.lawful Stream.the-type Laws''.the-laws 𝓤 H A W;
+      copies = Laws'5.copy Stream.the-type Laws'3.the-copy 𝓤 H A W;
+      lawful = Laws'5.lawful Stream.the-type Laws'3.the-laws 𝓤 H A W;
       makes = Laws'5.makes Stream.the-type
-          Laws''.the-plain 𝓤 H A;
+          Laws'3.the-plain 𝓤 H A;
       in-mem = Local.mem-whole 𝓤 H A W (Declared'.row Stream.the-type);
       of-mem = Local.whole-mem 𝓤 H A W (Declared'.row Stream.the-type);
     }) (List._∷_
@@ -129,37 +129,37 @@ abbrev pub ps·0 : List.List (Kinds.PK 1)
 ps·0 = List._∷_ (Value.pVal record {
   ty = Declared'.row Stream.the-type;
   one = Path'.refl;
-  val = Laws'5.val Stream.the-type Laws''.the-laws;
+  val = Laws'5.val Stream.the-type Laws'3.the-laws;
   tells = Laws'5.tells Stream.the-type
-      Laws''.the-laws;
-  still = Laws'5.still Stream.the-type Laws''.the-copy Exit.yes;
+      Laws'3.the-laws;
+  still = Laws'5.still Stream.the-type Laws'3.the-copy Exit.yes;
   row = Rows.whole (Declared'.row Stream.the-type);
   rd = λ x. x;
   mk = λ x. x;
 } λ M 𝓤 H A W.
     record {
-      copies = Laws'5.copy Stream.the-type Laws''.the-copy 𝓤 H A W;
-      lawful = Laws'5.lawful Stream.the-type Laws''.the-laws 𝓤 H A W;
+      copies = Laws'5.copy Stream.the-type Laws'3.the-copy 𝓤 H A W;
+      lawful = Laws'5.lawful Stream.the-type Laws'3.the-laws 𝓤 H A W;
       makes = Laws'5.makes Stream.the-type
-          Laws''.the-plain 𝓤 H A;
+          Laws'3.the-plain 𝓤 H A;
       in-mem = Local.mem-whole 𝓤 H A W (Declared'.row Stream.the-type);
       of-mem = Local.whole-mem 𝓤 H A W (Declared'.row Stream.the-type);
     }) (List._∷_
     (ShrSlice.pShrS Of.R 0 tt) (List._∷_ (Value.pVal record {
       ty = Declared.row Question.the-type;
       one = Path'.refl;
-      val = Laws'4.val Question.the-type Laws'3.the-laws;
+      val = Laws'4.val Question.the-type Laws''.the-laws;
       tells =
-          Laws'4.tells Question.the-type Laws'3.the-laws;
-      still = Laws'4.still Question.the-type Laws'3.the-copy Exit.yes;
+          Laws'4.tells Question.the-type Laws''.the-laws;
+      still = Laws'4.still Question.the-type Laws''.the-copy Exit.yes;
       row = Rows.whole (Declared.row Question.the-type);
       rd = λ x. x;
       mk = λ x. x;
     } λ M 𝓤 H A W. record {
-      copies = Laws'4.copy Question.the-type Laws'3.the-copy 𝓤 H A W;
-      lawful = Laws'4.lawful Question.the-type Laws'3.the-laws 𝓤 H A W tt;
+      copies = Laws'4.copy Question.the-type Laws''.the-copy 𝓤 H A W;
+      lawful = Laws'4.lawful Question.the-type Laws''.the-laws 𝓤 H A W tt;
       makes
-          = Laws'4.makes Question.the-type Laws'3.the-plain 𝓤 H A;
+          = Laws'4.makes Question.the-type Laws''.the-plain 𝓤 H A;
       in-mem = Local.mem-whole 𝓤 H A W (Declared.row Question.the-type);
       of-mem = Local.whole-mem 𝓤 H A W (Declared.row
           Question.the-type);
@@ -239,28 +239,28 @@ abbrev pub t1 : List.List Row.Entry
 t1 = List._∷_ (0, Rows.whole (Declared.row Answer.the-type)) (List._∷_ (
   1,
   Rows.any-gone (Syntax.tyStruct (List._∷_ 103 (List._∷_ 114 (List._∷_ 101 (List._∷_ 101 (List._∷_ 110
-      (List._∷_ 119 (List._∷_ 97 (List._∷_ 108 (List._∷_ 100 (List._∷_ 95 (List._∷_ 107 (List._∷_ 104 (List._∷_ 97 (List._∷_ 110 (List._∷_ 110 (List._∷_ 97 (List._∷_ 58 (List._∷_ 58
-      (List._∷_ 83 (List._∷_ 116 (List._∷_ 114 (List._∷_ 101 (List._∷_ 97 (List._∷_ 109 List.[])))))))))))))))))))))))) (Syntax.tcons (Syntax.tyStruct (List._∷_ 102 (List._∷_ 114
-      (List._∷_ 97 (List._∷_ 99 (List._∷_ 116 (List._∷_ 105 (List._∷_ 111 (List._∷_ 110 (List._∷_ 58 (List._∷_ 58 (List._∷_ 70 (List._∷_ 114 (List._∷_ 97 (List._∷_ 99 (List._∷_ 116
-      (List._∷_ 105 (List._∷_ 111 (List._∷_ 110 List.[])))))))))))))))))) (Syntax.tcons (Syntax.tyInt Syntax.w32) (Syntax.tcons (Syntax.tyInt Syntax.w32) Syntax.tnil))) (Syntax.tcons
-      (Syntax.tyInt Syntax.w32) (Syntax.tcons (Syntax.tyInt Syntax.w32) Syntax.tnil)))),
-) (List._∷_ (2, Rows.sslice Of.R (Syntax.tyRef (Syntax.named 0) Syntax.imm Of.tyBy) 0)
+      (List._∷_ 119 (List._∷_ 97 (List._∷_ 108 (List._∷_ 100 (List._∷_ 95 (List._∷_ 107 (List._∷_ 104 (List._∷_ 97 (List._∷_ 110 (List._∷_ 110 (List._∷_ 97 (List._∷_ 95 (List._∷_ 115
+      (List._∷_ 116 (List._∷_ 101 (List._∷_ 112 (List._∷_ 115 (List._∷_ 58 (List._∷_ 58 (List._∷_ 83 (List._∷_ 116 (List._∷_ 114 (List._∷_ 101 (List._∷_ 97 (List._∷_ 109
+      List.[])))))))))))))))))))))))))))))) (Syntax.tcons (Syntax.tyStruct (List._∷_ 102 (List._∷_ 114 (List._∷_ 97 (List._∷_ 99 (List._∷_ 116 (List._∷_ 105 (List._∷_ 111 (List._∷_
+      110 (List._∷_ 58 (List._∷_ 58 (List._∷_ 70 (List._∷_ 114 (List._∷_ 97 (List._∷_ 99 (List._∷_ 116 (List._∷_ 105 (List._∷_ 111 (List._∷_ 110 List.[]))))))))))))))))))
+      (Syntax.tcons (Syntax.tyInt Syntax.w32) (Syntax.tcons (Syntax.tyInt Syntax.w32) Syntax.tnil))) (Syntax.tcons (Syntax.tyInt Syntax.w32) (Syntax.tcons (Syntax.tyInt Syntax.w32)
+      Syntax.tnil)))),
+) (List._∷_ (2, Rows.sslice Of.R (Syntax.tyRef (Syntax.named 0) Syntax.imm Of.tyBy) 0) (List._∷_ (
+  3,
+  Rows.any-gone (Syntax.tyStruct (List._∷_ 102 (List._∷_
+      114 (List._∷_ 97 (List._∷_ 99 (List._∷_ 116 (List._∷_ 105 (List._∷_ 111 (List._∷_ 110 (List._∷_ 58 (List._∷_ 58 (List._∷_ 70 (List._∷_ 114 (List._∷_ 97 (List._∷_ 99 (List._∷_
+      116 (List._∷_ 105 (List._∷_ 111 (List._∷_ 110 List.[])))))))))))))))))) (Syntax.tcons (Syntax.tyInt Syntax.w32) (Syntax.tcons (Syntax.tyInt Syntax.w32) Syntax.tnil))),
+)
     (List._∷_ (
-      3,
-      Rows.any-gone (Syntax.tyStruct (List._∷_ 102 (List._∷_ 114 (List._∷_ 97 (List._∷_ 99 (List._∷_ 116 (List._∷_ 105 (List._∷_ 111 (List._∷_ 110 (List._∷_ 58
-          (List._∷_ 58 (List._∷_ 70 (List._∷_ 114 (List._∷_ 97 (List._∷_ 99 (List._∷_ 116 (List._∷_ 105 (List._∷_ 111 (List._∷_ 110 List.[])))))))))))))))))) (Syntax.tcons (Syntax.tyInt
-          Syntax.w32) (Syntax.tcons (Syntax.tyInt Syntax.w32) Syntax.tnil))),
-    ) (List._∷_ (
       4,
-      Rows.any-gone (Syntax.tyEnum (List._∷_ 103 (List._∷_ 114 (List._∷_ 101 (List._∷_ 101
-          (List._∷_ 110 (List._∷_ 119 (List._∷_ 97 (List._∷_ 108 (List._∷_ 100 (List._∷_ 95 (List._∷_ 107 (List._∷_ 104 (List._∷_ 97 (List._∷_ 110 (List._∷_ 110 (List._∷_ 97 (List._∷_ 95
-          (List._∷_ 102 (List._∷_ 97 (List._∷_ 99 (List._∷_ 101 (List._∷_ 58 (List._∷_ 58 (List._∷_ 112 (List._∷_ 97 (List._∷_ 114 (List._∷_ 116 (List._∷_ 115 (List._∷_ 58 (List._∷_ 58
-          (List._∷_ 81 (List._∷_ 117 (List._∷_ 101 (List._∷_ 115 (List._∷_ 116 (List._∷_ 105 (List._∷_ 111 (List._∷_ 110 List.[])))))))))))))))))))))))))))))))))))))) (Syntax.ttcons
-          (Syntax.tcons (Syntax.tyStruct (List._∷_ 102 (List._∷_ 114 (List._∷_ 97 (List._∷_ 99 (List._∷_ 116 (List._∷_ 105 (List._∷_ 111 (List._∷_ 110 (List._∷_ 58 (List._∷_ 58 (List._∷_
-          70 (List._∷_ 114 (List._∷_ 97 (List._∷_ 99 (List._∷_ 116 (List._∷_ 105 (List._∷_ 111 (List._∷_ 110 List.[])))))))))))))))))) (Syntax.tcons (Syntax.tyInt Syntax.w32)
-          (Syntax.tcons (Syntax.tyInt Syntax.w32) Syntax.tnil))) Syntax.tnil) (Syntax.ttcons Syntax.tnil (Syntax.ttcons Syntax.tnil (Syntax.ttcons Syntax.tnil Syntax.ttnil))))),
-    )
-    List.[]))))
+      Rows.any-gone (Syntax.tyEnum (List._∷_ 103 (List._∷_ 114 (List._∷_ 101 (List._∷_ 101 (List._∷_ 110 (List._∷_ 119 (List._∷_ 97 (List._∷_ 108 (List._∷_ 100
+          (List._∷_ 95 (List._∷_ 107 (List._∷_ 104 (List._∷_ 97 (List._∷_ 110 (List._∷_ 110 (List._∷_ 97 (List._∷_ 95 (List._∷_ 102 (List._∷_ 97 (List._∷_ 99 (List._∷_ 101 (List._∷_ 58
+          (List._∷_ 58 (List._∷_ 112 (List._∷_ 97 (List._∷_ 114 (List._∷_ 116 (List._∷_ 115 (List._∷_ 58 (List._∷_ 58 (List._∷_ 81 (List._∷_ 117 (List._∷_ 101 (List._∷_ 115 (List._∷_ 116
+          (List._∷_ 105 (List._∷_ 111 (List._∷_ 110 List.[])))))))))))))))))))))))))))))))))))))) (Syntax.ttcons (Syntax.tcons (Syntax.tyStruct (List._∷_ 102 (List._∷_ 114 (List._∷_ 97
+          (List._∷_ 99 (List._∷_ 116 (List._∷_ 105 (List._∷_ 111 (List._∷_ 110 (List._∷_ 58 (List._∷_ 58 (List._∷_ 70 (List._∷_ 114 (List._∷_ 97 (List._∷_ 99 (List._∷_ 116 (List._∷_ 105
+          (List._∷_ 111 (List._∷_ 110 List.[])))))))))))))))))) (Syntax.tcons (Syntax.tyInt Syntax.w32) (Syntax.tcons (Syntax.tyInt Syntax.w32) Syntax.tnil))) Syntax.tnil) (Syntax.ttcons
+          Syntax.tnil (Syntax.ttcons Syntax.tnil (Syntax.ttcons Syntax.tnil Syntax.ttnil))))),
+    ) List.[]))))
 
 abbrev pub t2 : List.List Row.Entry
 t2 = List._∷_ (
@@ -325,18 +325,19 @@ abbrev pub t5 : List.List Row.Entry
 t5 = List._∷_ (0, Rows.whole (Declared.row Answer.the-type)) (List._∷_ (
   1,
   Rows.any-gone (Syntax.tyStruct (List._∷_ 103 (List._∷_ 114 (List._∷_ 101 (List._∷_ 101 (List._∷_ 110
-      (List._∷_ 119 (List._∷_ 97 (List._∷_ 108 (List._∷_ 100 (List._∷_ 95 (List._∷_ 107 (List._∷_ 104 (List._∷_ 97 (List._∷_ 110 (List._∷_ 110 (List._∷_ 97 (List._∷_ 58 (List._∷_ 58
-      (List._∷_ 83 (List._∷_ 116 (List._∷_ 114 (List._∷_ 101 (List._∷_ 97 (List._∷_ 109 List.[])))))))))))))))))))))))) (Syntax.tcons (Syntax.tyStruct (List._∷_ 102 (List._∷_ 114
-      (List._∷_ 97 (List._∷_ 99 (List._∷_ 116 (List._∷_ 105 (List._∷_ 111 (List._∷_ 110 (List._∷_ 58 (List._∷_ 58 (List._∷_ 70 (List._∷_ 114 (List._∷_ 97 (List._∷_ 99 (List._∷_ 116
-      (List._∷_ 105 (List._∷_ 111 (List._∷_ 110 List.[])))))))))))))))))) (Syntax.tcons (Syntax.tyInt Syntax.w32) (Syntax.tcons (Syntax.tyInt Syntax.w32) Syntax.tnil))) (Syntax.tcons
-      (Syntax.tyInt Syntax.w32) (Syntax.tcons (Syntax.tyInt Syntax.w32) Syntax.tnil)))),
-) (List._∷_ (2, Rows.sslice Of.R (Syntax.tyRef (Syntax.named 0) Syntax.imm Of.tyBy) 0)
-    (List._∷_ (
-      3,
-      Rows.any-gone (Syntax.tyStruct (List._∷_ 102 (List._∷_ 114 (List._∷_ 97 (List._∷_ 99 (List._∷_ 116 (List._∷_ 105 (List._∷_ 111 (List._∷_ 110 (List._∷_ 58
-          (List._∷_ 58 (List._∷_ 70 (List._∷_ 114 (List._∷_ 97 (List._∷_ 99 (List._∷_ 116 (List._∷_ 105 (List._∷_ 111 (List._∷_ 110 List.[])))))))))))))))))) (Syntax.tcons (Syntax.tyInt
-          Syntax.w32) (Syntax.tcons (Syntax.tyInt Syntax.w32) Syntax.tnil))),
-    ) (List._∷_ (4, Rows.whole (Declared.row Question.the-type)) List.[]))))
+      (List._∷_ 119 (List._∷_ 97 (List._∷_ 108 (List._∷_ 100 (List._∷_ 95 (List._∷_ 107 (List._∷_ 104 (List._∷_ 97 (List._∷_ 110 (List._∷_ 110 (List._∷_ 97 (List._∷_ 95 (List._∷_ 115
+      (List._∷_ 116 (List._∷_ 101 (List._∷_ 112 (List._∷_ 115 (List._∷_ 58 (List._∷_ 58 (List._∷_ 83 (List._∷_ 116 (List._∷_ 114 (List._∷_ 101 (List._∷_ 97 (List._∷_ 109
+      List.[])))))))))))))))))))))))))))))) (Syntax.tcons (Syntax.tyStruct (List._∷_ 102 (List._∷_ 114 (List._∷_ 97 (List._∷_ 99 (List._∷_ 116 (List._∷_ 105 (List._∷_ 111 (List._∷_
+      110 (List._∷_ 58 (List._∷_ 58 (List._∷_ 70 (List._∷_ 114 (List._∷_ 97 (List._∷_ 99 (List._∷_ 116 (List._∷_ 105 (List._∷_ 111 (List._∷_ 110 List.[]))))))))))))))))))
+      (Syntax.tcons (Syntax.tyInt Syntax.w32) (Syntax.tcons (Syntax.tyInt Syntax.w32) Syntax.tnil))) (Syntax.tcons (Syntax.tyInt Syntax.w32) (Syntax.tcons (Syntax.tyInt Syntax.w32)
+      Syntax.tnil)))),
+) (List._∷_ (2, Rows.sslice Of.R (Syntax.tyRef (Syntax.named 0) Syntax.imm Of.tyBy) 0) (List._∷_ (
+  3,
+  Rows.any-gone (Syntax.tyStruct (List._∷_ 102 (List._∷_
+      114 (List._∷_ 97 (List._∷_ 99 (List._∷_ 116 (List._∷_ 105 (List._∷_ 111 (List._∷_ 110 (List._∷_ 58 (List._∷_ 58 (List._∷_ 70 (List._∷_ 114 (List._∷_ 97 (List._∷_ 99 (List._∷_
+      116 (List._∷_ 105 (List._∷_ 111 (List._∷_ 110 List.[])))))))))))))))))) (Syntax.tcons (Syntax.tyInt Syntax.w32) (Syntax.tcons (Syntax.tyInt Syntax.w32) Syntax.tnil))),
+)
+    (List._∷_ (4, Rows.whole (Declared.row Question.the-type)) List.[]))))
 
 abbrev pub T0 : Row.Cx
 T0 = record { locals = t0; slots = List.[] }
@@ -394,11 +395,11 @@ module _ (claims· : Claims) where
 
   abbrev s3 : Typed.Mo T4 → Typed.Mo T5
   s3 = Scalar.n-room T4 1 (Syntax.tyStruct (List._∷_ 103 (List._∷_ 114 (List._∷_ 101 (List._∷_ 101 (List._∷_ 110 (List._∷_ 119 (List._∷_ 97 (List._∷_ 108 (List._∷_ 100 (List._∷_ 95
-      (List._∷_ 107 (List._∷_ 104 (List._∷_ 97 (List._∷_ 110 (List._∷_ 110 (List._∷_ 97 (List._∷_ 58 (List._∷_ 58 (List._∷_ 83 (List._∷_ 116 (List._∷_ 114 (List._∷_ 101 (List._∷_
-      97 (List._∷_ 109 List.[])))))))))))))))))))))))) (Syntax.tcons (Syntax.tyStruct (List._∷_ 102 (List._∷_ 114 (List._∷_ 97 (List._∷_ 99 (List._∷_ 116 (List._∷_ 105 (List._∷_
-      111 (List._∷_ 110 (List._∷_ 58 (List._∷_ 58 (List._∷_ 70 (List._∷_ 114 (List._∷_ 97 (List._∷_ 99 (List._∷_ 116 (List._∷_ 105 (List._∷_ 111 (List._∷_ 110
-      List.[])))))))))))))))))) (Syntax.tcons (Syntax.tyInt Syntax.w32) (Syntax.tcons (Syntax.tyInt Syntax.w32) Syntax.tnil))) (Syntax.tcons (Syntax.tyInt Syntax.w32) (Syntax.tcons
-      (Syntax.tyInt Syntax.w32) Syntax.tnil))))
+      (List._∷_ 107 (List._∷_ 104 (List._∷_ 97 (List._∷_ 110 (List._∷_ 110 (List._∷_ 97 (List._∷_ 95 (List._∷_ 115 (List._∷_ 116 (List._∷_ 101 (List._∷_ 112 (List._∷_ 115 (List._∷_
+      58 (List._∷_ 58 (List._∷_ 83 (List._∷_ 116 (List._∷_ 114 (List._∷_ 101 (List._∷_ 97 (List._∷_ 109 List.[])))))))))))))))))))))))))))))) (Syntax.tcons (Syntax.tyStruct
+      (List._∷_ 102 (List._∷_ 114 (List._∷_ 97 (List._∷_ 99 (List._∷_ 116 (List._∷_ 105 (List._∷_ 111 (List._∷_ 110 (List._∷_ 58 (List._∷_ 58 (List._∷_ 70 (List._∷_ 114 (List._∷_
+      97 (List._∷_ 99 (List._∷_ 116 (List._∷_ 105 (List._∷_ 111 (List._∷_ 110 List.[])))))))))))))))))) (Syntax.tcons (Syntax.tyInt Syntax.w32) (Syntax.tcons (Syntax.tyInt
+      Syntax.w32) Syntax.tnil))) (Syntax.tcons (Syntax.tyInt Syntax.w32) (Syntax.tcons (Syntax.tyInt Syntax.w32) Syntax.tnil))))
 
   abbrev s4 : Typed.Mo T5 → Typed.Mo T6
   s4 = Scalar.n-room T5 4 (Syntax.tyEnum (List._∷_ 103 (List._∷_ 114 (List._∷_ 101 (List._∷_ 101 (List._∷_ 110 (List._∷_ 119 (List._∷_ 97 (List._∷_ 108 (List._∷_ 100 (List._∷_ 95
@@ -494,16 +495,17 @@ module _ (claims· : Claims) where
           d2 : Typed.Typed 𝓤 H A 𝓣 E G4 b2 Δ0 at2
           d2 = Typed.g-pre 𝓤 H A W 𝓣 E G4 G5 b2 Δ0 (Typed.pass T4 T5 s3) at1 (Scalar.g-room 𝓤 H A W E G4 1 (Syntax.tyStruct (List._∷_ 103 (List._∷_ 114 (List._∷_ 101 (List._∷_ 101
               (List._∷_ 110 (List._∷_ 119 (List._∷_ 97 (List._∷_ 108 (List._∷_ 100 (List._∷_ 95 (List._∷_ 107 (List._∷_ 104 (List._∷_ 97 (List._∷_ 110 (List._∷_ 110 (List._∷_ 97
-              (List._∷_ 58 (List._∷_ 58 (List._∷_ 83 (List._∷_ 116 (List._∷_ 114 (List._∷_ 101 (List._∷_ 97 (List._∷_ 109 List.[])))))))))))))))))))))))) (Syntax.tcons
-              (Syntax.tyStruct (List._∷_ 102 (List._∷_ 114 (List._∷_ 97 (List._∷_ 99 (List._∷_ 116 (List._∷_ 105 (List._∷_ 111 (List._∷_ 110 (List._∷_ 58 (List._∷_ 58 (List._∷_ 70
-              (List._∷_ 114 (List._∷_ 97 (List._∷_ 99 (List._∷_ 116 (List._∷_ 105 (List._∷_ 111 (List._∷_ 110 List.[])))))))))))))))))) (Syntax.tcons (Syntax.tyInt Syntax.w32)
-              (Syntax.tcons (Syntax.tyInt Syntax.w32) Syntax.tnil))) (Syntax.tcons (Syntax.tyInt Syntax.w32) (Syntax.tcons (Syntax.tyInt Syntax.w32) Syntax.tnil))))
-              (Local.room-whole 𝓤 H A W (Declared'.row Stream.the-type) (Syntax.tyStruct (List._∷_ 103 (List._∷_ 114 (List._∷_ 101 (List._∷_ 101 (List._∷_ 110 (List._∷_ 119
-              (List._∷_ 97 (List._∷_ 108 (List._∷_ 100 (List._∷_ 95 (List._∷_ 107 (List._∷_ 104 (List._∷_ 97 (List._∷_ 110 (List._∷_ 110 (List._∷_ 97 (List._∷_ 58 (List._∷_ 58
-              (List._∷_ 83 (List._∷_ 116 (List._∷_ 114 (List._∷_ 101 (List._∷_ 97 (List._∷_ 109 List.[])))))))))))))))))))))))) (Syntax.tcons (Syntax.tyStruct (List._∷_ 102
-              (List._∷_ 114 (List._∷_ 97 (List._∷_ 99 (List._∷_ 116 (List._∷_ 105 (List._∷_ 111 (List._∷_ 110 (List._∷_ 58 (List._∷_ 58 (List._∷_ 70 (List._∷_ 114 (List._∷_ 97
-              (List._∷_ 99 (List._∷_ 116 (List._∷_ 105 (List._∷_ 111 (List._∷_ 110 List.[])))))))))))))))))) (Syntax.tcons (Syntax.tyInt Syntax.w32) (Syntax.tcons (Syntax.tyInt
-              Syntax.w32) Syntax.tnil))) (Syntax.tcons (Syntax.tyInt Syntax.w32) (Syntax.tcons (Syntax.tyInt Syntax.w32) Syntax.tnil)))) Path'.refl)) d1
+              (List._∷_ 95 (List._∷_ 115 (List._∷_ 116 (List._∷_ 101 (List._∷_ 112 (List._∷_ 115 (List._∷_ 58 (List._∷_ 58 (List._∷_ 83 (List._∷_ 116 (List._∷_ 114 (List._∷_ 101
+              (List._∷_ 97 (List._∷_ 109 List.[])))))))))))))))))))))))))))))) (Syntax.tcons (Syntax.tyStruct (List._∷_ 102 (List._∷_ 114 (List._∷_ 97 (List._∷_ 99 (List._∷_ 116
+              (List._∷_ 105 (List._∷_ 111 (List._∷_ 110 (List._∷_ 58 (List._∷_ 58 (List._∷_ 70 (List._∷_ 114 (List._∷_ 97 (List._∷_ 99 (List._∷_ 116 (List._∷_ 105 (List._∷_ 111
+              (List._∷_ 110 List.[])))))))))))))))))) (Syntax.tcons (Syntax.tyInt Syntax.w32) (Syntax.tcons (Syntax.tyInt Syntax.w32) Syntax.tnil))) (Syntax.tcons (Syntax.tyInt
+              Syntax.w32) (Syntax.tcons (Syntax.tyInt Syntax.w32) Syntax.tnil)))) (Local.room-whole 𝓤 H A W (Declared'.row Stream.the-type) (Syntax.tyStruct (List._∷_ 103 (List._∷_
+              114 (List._∷_ 101 (List._∷_ 101 (List._∷_ 110 (List._∷_ 119 (List._∷_ 97 (List._∷_ 108 (List._∷_ 100 (List._∷_ 95 (List._∷_ 107 (List._∷_ 104 (List._∷_ 97 (List._∷_
+              110 (List._∷_ 110 (List._∷_ 97 (List._∷_ 95 (List._∷_ 115 (List._∷_ 116 (List._∷_ 101 (List._∷_ 112 (List._∷_ 115 (List._∷_ 58 (List._∷_ 58 (List._∷_ 83 (List._∷_ 116
+              (List._∷_ 114 (List._∷_ 101 (List._∷_ 97 (List._∷_ 109 List.[])))))))))))))))))))))))))))))) (Syntax.tcons (Syntax.tyStruct (List._∷_ 102 (List._∷_ 114 (List._∷_ 97
+              (List._∷_ 99 (List._∷_ 116 (List._∷_ 105 (List._∷_ 111 (List._∷_ 110 (List._∷_ 58 (List._∷_ 58 (List._∷_ 70 (List._∷_ 114 (List._∷_ 97 (List._∷_ 99 (List._∷_ 116
+              (List._∷_ 105 (List._∷_ 111 (List._∷_ 110 List.[])))))))))))))))))) (Syntax.tcons (Syntax.tyInt Syntax.w32) (Syntax.tcons (Syntax.tyInt Syntax.w32) Syntax.tnil)))
+              (Syntax.tcons (Syntax.tyInt Syntax.w32) (Syntax.tcons (Syntax.tyInt Syntax.w32) Syntax.tnil)))) Path'.refl)) d1
 
           d3 : Typed.Typed 𝓤 H A 𝓣 E G3 b3 Δ0 at3
           d3 = Typed.s-seq 𝓤 H A W 𝓣 E G3 G4 b1 b2 Δ0 (Typed.both s2) at2 (Plain.t-call-plain 𝓤 H A W 𝓣 1 ps·0 r·0 (claims· .0) (claims· .1) "greenwald_khanna_face::ask" known E (λ
@@ -516,7 +518,7 @@ module _ (claims· : Claims) where
               ) 0 (List._∷_ 0 List.[]) (Call.sub-id 𝓤 H A W (G3 .slots)) (
                 (
                   Yields.yields-copy 𝓤 H A W (λ ρ. Unit)
-                      (Declared'.row Stream.the-type) Path'.refl (Copies.cStruct Stream.the-type Laws''.the-laws Laws''.the-copy .copy 𝓤 H A W) (Rows.whole (Declared'.row Stream.the-type))
+                      (Declared'.row Stream.the-type) Path'.refl (Copies.cStruct Stream.the-type Laws'3.the-laws Laws'3.the-copy .copy 𝓤 H A W) (Rows.whole (Declared'.row Stream.the-type))
                       (λ x. x) (λ x. x) (λ ρ told. Local.mem-whole 𝓤 H A W (Declared'.row Stream.the-type) ρ) λ ρ told. Local.whole-mem 𝓤 H A W (Declared'.row Stream.the-type) ρ,
                   Path'.refl,
                 ),
@@ -528,7 +530,7 @@ module _ (claims· : Claims) where
                   (
                     (
                       Yields.yields-copy 𝓤 H A W (λ ρ. Unit) (Declared.row Question.the-type) Path'.refl (Copies.cEnum
-                          Question.the-type Laws'3.the-laws Laws'3.the-copy .copy 𝓤 H A W) (Rows.whole (Declared.row Question.the-type)) (λ x. x) (λ x. x) (λ ρ told. Local.mem-whole 𝓤 H A W
+                          Question.the-type Laws''.the-laws Laws''.the-copy .copy 𝓤 H A W) (Rows.whole (Declared.row Question.the-type)) (λ x. x) (λ x. x) (λ ρ told. Local.mem-whole 𝓤 H A W
                           (Declared.row Question.the-type) ρ) λ ρ told. Local.whole-mem 𝓤 H A W (Declared.row Question.the-type) ρ,
                       Path'.refl,
                     ),
@@ -553,7 +555,7 @@ module _ (claims· : Claims) where
               (Syntax.tcons (Syntax.tyInt Syntax.w32) (Syntax.tcons (Syntax.tyInt Syntax.w32) Syntax.tnil))) Path'.refl)) d3
 
           d5 : Typed.Typed 𝓤 H A 𝓣 E G0 b4 Δ0 at5
-          d5 = Typed.s-seq 𝓤 H A W 𝓣 E G0 G2 b0 b3 Δ0 (Typed.pass T0 T2 s0) at4 (Make.t-enum-make-wt 𝓤 H A W E 𝓣 Question.the-type Laws'3.the-laws Laws'3.the-plain tt G0 4
+          d5 = Typed.s-seq 𝓤 H A W 𝓣 E G0 G2 b0 b3 Δ0 (Typed.pass T0 T2 s0) at4 (Make.t-enum-make-wt 𝓤 H A W E 𝓣 Question.the-type Laws''.the-laws Laws''.the-plain tt G0 4
               (List._∷_ (Scalar.oInt Syntax.w8 0) (List._∷_ (Scalar.oAt 3 (Syntax.tyStruct (List._∷_ 102 (List._∷_ 114 (List._∷_ 97 (List._∷_ 99 (List._∷_ 116 (List._∷_ 105
               (List._∷_ 111 (List._∷_ 110 (List._∷_ 58 (List._∷_ 58 (List._∷_ 70 (List._∷_ 114 (List._∷_ 97 (List._∷_ 99 (List._∷_ 116 (List._∷_ 105 (List._∷_ 111 (List._∷_ 110
               List.[])))))))))))))))))) (Syntax.tcons (Syntax.tyInt Syntax.w32) (Syntax.tcons (Syntax.tyInt Syntax.w32) Syntax.tnil))) (Laws'5.val Fraction.the-type Laws.the-laws))
@@ -570,14 +572,14 @@ module _ (claims· : Claims) where
                   (Reads.reads-struct 𝓤 H A W Fraction.the-type Laws.the-laws, Path'.refl),
                   tt,
                 ),
-              ) Path'.refl (λ m wa. Make.made-val Question.the-type Laws'3.the-laws (List._∷_ (Laws'5.val Fraction.the-type Laws.the-laws (m .1 .1 .1 .0)) List.[])
+              ) Path'.refl (λ m wa. Make.made-val Question.the-type Laws''.the-laws (List._∷_ (Laws'5.val Fraction.the-type Laws.the-laws (m .1 .1 .1 .0)) List.[])
               (Question.enum .make (Logic.inl (m .1 .1 .1 .0, tt))) (
                 Signed.made-wt Fraction.the-field Laws.the-field-laws (Make'.struct-wt Fraction.the-type Laws.the-laws (
                   Make'.u32-wt,
                   (Make'.u32-wt, tt),
                 )) (Fraction.the-type .to (m .1 .1 .1 .0)),
                 tt,
-              ) (wa .1)) λ m wa. Make.made-is Question.the-type Laws'3.the-laws (List._∷_
+              ) (wa .1)) λ m wa. Make.made-is Question.the-type Laws''.the-laws (List._∷_
               (Laws'5.val Fraction.the-type Laws.the-laws (m .1 .1 .1 .0)) List.[]) (Question.enum .make (Logic.inl (m .1 .1 .1 .0, tt))) (
                 Signed.made-wt Fraction.the-field
                     Laws.the-field-laws (Make'.struct-wt Fraction.the-type Laws.the-laws (Make'.u32-wt, (Make'.u32-wt, tt))) (Fraction.the-type .to (m .1 .1 .1 .0)),
@@ -592,19 +594,19 @@ module _ (claims· : Claims) where
           pub stream : Kinds.Den {n = 1} κs (Value.pVal record {
             ty = Declared'.row Stream.the-type;
             one = Path'.refl;
-            val = Laws'5.val Stream.the-type Laws''.the-laws;
+            val = Laws'5.val Stream.the-type Laws'3.the-laws;
             tells =
-                Laws'5.tells Stream.the-type Laws''.the-laws;
-            still = Laws'5.still Stream.the-type Laws''.the-copy Exit.yes;
+                Laws'5.tells Stream.the-type Laws'3.the-laws;
+            still = Laws'5.still Stream.the-type Laws'3.the-copy Exit.yes;
             row = Rows.whole (Declared'.row Stream.the-type);
             rd = λ
                 x. x;
             mk = λ x. x;
           } λ M 𝓤 H A W. record {
-            copies = Laws'5.copy Stream.the-type Laws''.the-copy 𝓤 H A W;
-            lawful = Laws'5.lawful Stream.the-type Laws''.the-laws 𝓤 H A
+            copies = Laws'5.copy Stream.the-type Laws'3.the-copy 𝓤 H A W;
+            lawful = Laws'5.lawful Stream.the-type Laws'3.the-laws 𝓤 H A
                 W;
-            makes = Laws'5.makes Stream.the-type Laws''.the-plain 𝓤 H A;
+            makes = Laws'5.makes Stream.the-type Laws'3.the-plain 𝓤 H A;
             in-mem = Local.mem-whole 𝓤 H A W (Declared'.row Stream.the-type);
             of-mem = Local.whole-mem 𝓤 H A W
                 (Declared'.row Stream.the-type);

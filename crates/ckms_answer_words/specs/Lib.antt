@@ -1,0 +1,3 @@
+pub mod CkmsAnswers
+pub mod Laws
+pub mod Promises

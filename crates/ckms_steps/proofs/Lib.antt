@@ -1,0 +1,4 @@
+mod Openings
+pub mod States
+pub mod Takes
+pub mod Tests

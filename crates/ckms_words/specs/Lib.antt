@@ -1,0 +1,3 @@
+pub mod Ckmses
+pub mod Laws
+pub mod Promises

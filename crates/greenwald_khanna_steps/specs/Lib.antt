@@ -1,0 +1,4 @@
+pub mod Limits
+pub mod Opening
+pub mod Sound
+pub mod Steps

@@ -1,0 +1,4 @@
+pub mod Sounds
+pub mod Keeping
+pub mod Standings
+pub mod Openings

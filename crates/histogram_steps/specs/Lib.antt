@@ -1,0 +1,5 @@
+pub mod Bounds
+pub mod State
+pub mod Sound
+pub mod Standing
+pub mod Opening

@@ -1,0 +1,3 @@
+pub mod Histograms
+pub mod Laws
+pub mod Promises

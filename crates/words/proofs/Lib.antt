@@ -1,4 +1,0 @@
-pub mod Backs
-pub mod Fitting
-pub mod Misfits
-pub mod Zeros
