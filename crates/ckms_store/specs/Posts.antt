@@ -1,4 +1,4 @@
--- What holds after each call: its answer and both lent lists as functions of the input; and an accepted call leaves a sound state.
+-- What holds after each call but opening: its answer and both lent lists as functions of the input; and an accepted call leaves a sound state.
 -- Assumes nothing: these are definitions.
 use mathlib.Core.Path.{_≡_}
 use mathlib.Core.Bool.{true}

@@ -1,4 +1,4 @@
--- What each call answers, by cases, in the order of the refusal table.
+-- What each call but opening answers, by cases, in the order of the refusal table.
 -- Assumes nothing: these are definitions.
 use Prim.Native.Nat.{ℕ}
 use mathlib.Core.Bool.{cond}
