@@ -26,7 +26,8 @@ use Rattle.ckms.specs.declared.Inserted.the-variants as inserting
 use Rattle.ckms.specs.Answers.{inserted, queried}
 use Rattle.ckms.specs.Posts.{InsertPost}
 use Rattle.ckms_store_steps.proofs.Tested.{answerOf}
-use Rattle.ckms.proofs.Tests.{by-store, by-unsound, answered-by}
+use Rattle.ckms_told.proofs.Tests.{answered-by}
+use Rattle.ckms.proofs.Tests.{by-store, by-unsound}
 
 module _ (c : CKMS) (list : List Entry) (lens : List ℕ) where
   -- where the tests pass, a call goes on to its own answer

@@ -34,12 +34,13 @@ use Rattle.ckms_steps.specs.Steps.{tested, checked, takenIn, stateOf, Ready}
 use Rattle.ckms_steps.proofs.States.{is-true, true-is}
 use Rattle.ckms_steps.proofs.Takes.{sound-parts, store-ready}
 use Rattle.ckms.specs.declared.Inserted.the-variants as inserting
-use Rattle.ckms.specs.declared.Counted.the-variants as counting
-use Rattle.ckms.specs.declared.LastIn.the-variants as telling
-use Rattle.ckms.specs.declared.Average.the-variants as averaging
-use Rattle.ckms.specs.declared.ErrorBound.the-variants as bounding
+use Rattle.ckms_told.specs.declared.Counted.the-variants as counting
+use Rattle.ckms_told.specs.declared.LastIn.the-variants as telling
+use Rattle.ckms_told.specs.declared.Average.the-variants as averaging
+use Rattle.ckms_told.specs.declared.ErrorBound.the-variants as bounding
 use Rattle.ckms_steps.specs.Opening.{fresh, opened}
-use Rattle.ckms.specs.Answers.{inserted, queried, countOf, lastOf, cmaOf, errorOf}
+use Rattle.ckms_told.specs.Answers.{countOf, lastOf, cmaOf, errorOf}
+use Rattle.ckms.specs.Answers.{inserted, queried}
 use Rattle.ckms.specs.Promises.{Rules, SoundExactly}
 use Rattle.ckms.specs.Refusals.{OpenExactly, CheckExactly, InsertExactly, QueryExactly}
 use Rattle.ckms.proofs.Calls.{own}

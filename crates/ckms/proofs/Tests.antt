@@ -1,5 +1,5 @@
--- What the tests that every call makes first say of its answer. Assumes nothing.
-use mathlib.Core.Path.{_≡_, refl, sym, ap, _∙_}
+-- What the tests that every call makes first say of an insert and of a query. Assumes nothing.
+use mathlib.Core.Path.{_≡_, refl, sym, _∙_}
 use Prim.Native.Nat.{ℕ}
 use mathlib.Core.Bool.{Bool, true, false, _&&_}
 use mathlib.Core.List.{List}
@@ -10,10 +10,10 @@ use Rattle.entries.specs.declared.Entry.{Entry}
 use Rattle.ckms_store_steps.specs.declared.Checked.{Checked}
 use Rattle.ckms_store_steps.specs.declared.Checked.the-variants as checking
 use Rattle.ckms_store_steps.specs.Limits.{slotsOk}
-use Rattle.ckms_store_steps.proofs.Tested.{two, answerOf, by-check, check-passed}
+use Rattle.ckms_store_steps.proofs.Tested.{two, answerOf, check-passed}
 use Rattle.ckms_steps.specs.declared.CKMS.{CKMS}
 use Rattle.ckms_steps.specs.State.{sound}
-use Rattle.ckms_steps.specs.Steps.{tested, checked, Ready}
+use Rattle.ckms_steps.specs.Steps.{checked, Ready}
 
 -- the store's tests, made once more behind those of a CKMS whose other parts are sound; and those of one whose other parts are not
 pub by-store : {A : Type 0} (refused : Refusal → A) (x : A) (a b r : Bool) → r ≡ true → two refused a (b && r) (two refused a b x) ≡ two refused a b x
@@ -27,11 +27,6 @@ by-unsound refused x true false r e = refl
 by-unsound refused x false b r e = refl
 
 module _ (c : CKMS) (list : List Entry) (lens : List ℕ) where
-  -- a call answers by what its check found
-  pub answered-by : {A : Type 0} (refused : Refusal → A) (x : A) (k l : Checked) → k ≡ checked c list lens → k ≡ l → tested refused c list lens x ≡ answerOf refused x l
-  unfolding checked
-  answered-by refused x k l e f = by-check refused x (slotsOk (length list) (length lens)) (sound c list lens) ∙ ap (answerOf refused x) (sym e ∙ f)
-
   -- a passed check is what a call's work asks
   pub ready : (k : Checked) → k ≡ checked c list lens → k ≡ checking.Sound → Ready c list lens
   unfolding checked

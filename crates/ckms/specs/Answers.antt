@@ -1,4 +1,4 @@
--- What each call of a CKMS but opening answers, and the lent lists that it leaves, on every input. The tests stand in the order of the refusals.
+-- What an insert and a query answer, and the lent lists that an insert leaves, on every input. The tests stand in the order of the refusals.
 -- Assumes nothing: these are definitions.
 use Prim.Native.Nat.{ℕ}
 use mathlib.Core.Bool.{cond}
@@ -17,14 +17,6 @@ use Rattle.ckms_steps.specs.State.{samples}
 use Rattle.ckms_steps.specs.Steps.{tested, takenIn, stateOf}
 use Rattle.ckms.specs.declared.Inserted.{Inserted}
 use Rattle.ckms.specs.declared.Inserted.the-variants as inserting
-use Rattle.ckms.specs.declared.Counted.{Counted}
-use Rattle.ckms.specs.declared.Counted.the-variants as counting
-use Rattle.ckms.specs.declared.LastIn.{LastIn}
-use Rattle.ckms.specs.declared.LastIn.the-variants as telling
-use Rattle.ckms.specs.declared.Average.{Average}
-use Rattle.ckms.specs.declared.Average.the-variants as averaging
-use Rattle.ckms.specs.declared.ErrorBound.{ErrorBound}
-use Rattle.ckms.specs.declared.ErrorBound.the-variants as bounding
 
 -- inserting: SLOTS, DAMAGED, COUNT, FULL; else the CKMS with the observation
 unfoldable pub inserted : CKMS → List Entry → List ℕ → ℕ → Inserted
@@ -42,16 +34,3 @@ leftBy (inserting.Refused why) new old = old
 -- a query: SLOTS, DAMAGED; else the store's answer
 unfoldable pub queried : CKMS → List Entry → List ℕ → Fraction → Answer
 queried c list lens q = tested answering.Refused c list lens (store.queried (samples c) list lens q)
-
--- count, last, cma and error_bound: SLOTS, DAMAGED
-unfoldable pub countOf : CKMS → List Entry → List ℕ → Counted
-countOf c list lens = tested counting.Refused c list lens (counting.Count (c .n))
-
-unfoldable pub lastOf : CKMS → List Entry → List ℕ → LastIn
-lastOf c list lens = tested telling.Refused c list lens (telling.Given (c .last_in))
-
-unfoldable pub cmaOf : CKMS → List Entry → List ℕ → Average
-cmaOf c list lens = tested averaging.Refused c list lens (averaging.Given (c .cma))
-
-unfoldable pub errorOf : CKMS → List Entry → List ℕ → ErrorBound
-errorOf c list lens = tested bounding.Refused c list lens (bounding.Given (c .error))

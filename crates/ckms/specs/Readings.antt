@@ -18,9 +18,10 @@ use Rattle.ckms_steps.specs.State.{cmaSound}
 use Rattle.ckms_steps.specs.Steps.{newList, newLens}
 use Rattle.ckms.specs.declared.Inserted.{Inserted}
 use Rattle.ckms.specs.declared.Inserted.the-variants as inserting
-use Rattle.ckms.specs.declared.Average.the-variants as averaging
+use Rattle.ckms_told.specs.declared.Average.the-variants as averaging
 use Rattle.ckms_steps.specs.Opening.{fresh}
-use Rattle.ckms.specs.Answers.{inserted, leftBy, queried, cmaOf}
+use Rattle.ckms_told.specs.Answers.{cmaOf}
+use Rattle.ckms.specs.Answers.{inserted, leftBy, queried}
 
 -- num / den
 abbrev pub over : ℕ → ℕ → Fraction

@@ -20,12 +20,13 @@ use Rattle.ckms_steps.specs.State.{sound}
 use Rattle.ckms_steps.specs.Steps.{checked, Ready}
 use Rattle.ckms_steps.specs.declared.Opened.the-variants as opening
 use Rattle.ckms.specs.declared.Inserted.the-variants as inserting
-use Rattle.ckms.specs.declared.Counted.the-variants as counting
-use Rattle.ckms.specs.declared.LastIn.the-variants as telling
-use Rattle.ckms.specs.declared.Average.the-variants as averaging
-use Rattle.ckms.specs.declared.ErrorBound.the-variants as bounding
+use Rattle.ckms_told.specs.declared.Counted.the-variants as counting
+use Rattle.ckms_told.specs.declared.LastIn.the-variants as telling
+use Rattle.ckms_told.specs.declared.Average.the-variants as averaging
+use Rattle.ckms_told.specs.declared.ErrorBound.the-variants as bounding
 use Rattle.ckms_steps.specs.Opening.{opened}
-use Rattle.ckms.specs.Answers.{inserted, queried, countOf, lastOf, cmaOf, errorOf}
+use Rattle.ckms_told.specs.Answers.{countOf, lastOf, cmaOf, errorOf}
+use Rattle.ckms.specs.Answers.{inserted, queried}
 
 pub record OpenExactly (error : Fraction) (list : List Entry) (lens : List ℕ) : Type 0 where
   pub slots : opened error list lens ≡ opening.Refused Slots ↔ slotsOk (length list) (length lens) ≡ false

@@ -6,7 +6,7 @@ use fraction::Fraction;
 use refusal::Refusal;
 ghost use mathlib.Core.Path.{_≡_};
 ghost use Rattle.entries.specs.Entry.{entriesOf};
-ghost use Rattle.ckms.specs.Answers.{queried, countOf, lastOf, cmaOf, errorOf};
+ghost use Rattle.ckms.specs.Answers.{queried};
 ghost use Rattle.ckms.specs.Posts.{InsertPost};
 ghost use Rattle.ckms.specs.Promises.{Promises};
 
@@ -17,33 +17,19 @@ pub use ckms_steps::Last;
 pub use ckms_steps::Opened;
 pub use ckms_store::Answer;
 
+// What a CKMS tells of itself.
+pub use ckms_told::Average;
+pub use ckms_told::Counted;
+pub use ckms_told::ErrorBound;
+pub use ckms_told::LastIn;
+pub use ckms_told::cma;
+pub use ckms_told::count;
+pub use ckms_told::error_bound;
+pub use ckms_told::last;
+
 // What an insert answers.
 pub enum Inserted {
     Taken(CKMS),
-    Refused(Refusal),
-}
-
-// How many observations were accepted.
-pub enum Counted {
-    Count(u32),
-    Refused(Refusal),
-}
-
-// The last value accepted.
-pub enum LastIn {
-    Given(Last),
-    Refused(Refusal),
-}
-
-// The running mean.
-pub enum Average {
-    Given(Cma),
-    Refused(Refusal),
-}
-
-// The error as opened.
-pub enum ErrorBound {
-    Given(Fraction),
     Refused(Refusal),
 }
 
@@ -77,53 +63,6 @@ pub fn query(state: CKMS, rows: &[[u32; 3]], lens: &[u32], q: Fraction) -> Answe
         return Answer::Refused(why);
     }
     Answer::Refused(Refusal::Damaged)
-}
-
-// How many observations were accepted.
-pub fn count(state: CKMS, rows: &[[u32; 3]], lens: &[u32]) -> Counted
-    ensures { λ r. ⌜ r ≡ countOf state (entriesOf (now (rows .entry))) (now (lens .entry)) ⌝ }
-{
-    let test = state.check(rows, lens);
-    if let Checked::Refused(why) = test {
-        return Counted::Refused(why);
-    }
-    Counted::Count(state.n)
-}
-
-// The last value accepted.
-pub fn last(state: CKMS, rows: &[[u32; 3]], lens: &[u32]) -> LastIn
-    ensures { λ r. ⌜ r ≡ lastOf state (entriesOf (now (rows .entry))) (now (lens .entry)) ⌝ }
-{
-    let test = state.check(rows, lens);
-    if let Checked::Refused(why) = test {
-        return LastIn::Refused(why);
-    }
-    let last_in = state.last_in;
-    LastIn::Given(last_in)
-}
-
-// The cumulative moving average of the values accepted.
-pub fn cma(state: CKMS, rows: &[[u32; 3]], lens: &[u32]) -> Average
-    ensures { λ r. ⌜ r ≡ cmaOf state (entriesOf (now (rows .entry))) (now (lens .entry)) ⌝ }
-{
-    let test = state.check(rows, lens);
-    if let Checked::Refused(why) = test {
-        return Average::Refused(why);
-    }
-    let cma = state.cma;
-    Average::Given(cma)
-}
-
-// The error as opened, unreduced.
-pub fn error_bound(state: CKMS, rows: &[[u32; 3]], lens: &[u32]) -> ErrorBound
-    ensures { λ r. ⌜ r ≡ errorOf state (entriesOf (now (rows .entry))) (now (lens .entry)) ⌝ }
-{
-    let test = state.check(rows, lens);
-    if let Checked::Refused(why) = test {
-        return ErrorBound::Refused(why);
-    }
-    let error = state.error;
-    ErrorBound::Given(error)
 }
 
 // The theorems about the definitions are in proofs/. This contract states them, so that none can go missing.

@@ -10,10 +10,10 @@ use Rattle.ckms_steps.specs.declared.Last.{Last}
 use Rattle.ckms_steps.specs.declared.Cma.{Cma}
 use Rattle.ckms_steps.specs.declared.Opened.{Opened}
 use Rattle.ckms.specs.declared.Inserted.{Inserted}
-use Rattle.ckms.specs.declared.Counted.{Counted}
-use Rattle.ckms.specs.declared.LastIn.{LastIn}
-use Rattle.ckms.specs.declared.Average.{Average}
-use Rattle.ckms.specs.declared.ErrorBound.{ErrorBound}
+use Rattle.ckms_told.specs.declared.Counted.{Counted}
+use Rattle.ckms_told.specs.declared.LastIn.{LastIn}
+use Rattle.ckms_told.specs.declared.Average.{Average}
+use Rattle.ckms_told.specs.declared.ErrorBound.{ErrorBound}
 use Rattle.words.specs.declared.Number.{Number}
 use Rattle.ckms_words.specs.declared.CkmsWords.{CkmsWords}
 use Rattle.ckms_answer_words.specs.declared.CkmsAnswer.{CkmsAnswer}

@@ -25,7 +25,7 @@ fn merges(error: Fraction, r: u32, current: [u32; 3], next: [u32; 3]) -> bool
     ensures { λ b. ⌜ b ≡ merges error r (entryOf current) (entryOf next) ⌝ }
 {
     fraction::wide(current[1]) + fraction::wide(next[1]) + fraction::wide(next[2])
-        <= products::inv(error, r)
+        <= invariant::inv(error, r)
 }
 
 // The next row with the current one's g in it.

@@ -30,7 +30,7 @@ pub fn new_delta(error: Fraction, place: usize, held: usize, rank: u32) -> u32
     if place == held {
         return 0;
     }
-    (products::inv(error, rank) - 1) as u32
+    (invariant::inv(error, rank) - 1) as u32
 }
 
 // The entries held are squashed, and the places that become free zeroed: how many are left. The block lengths become what stays of each block.

@@ -235,7 +235,7 @@ impl Store {
         let error = self.error;
         let held = place(self.held);
         let n = self.n;
-        let limit = 2 * (wide(q.num) * wide(n)) + wide(q.den) * products::inv_at(error, q, n);
+        let limit = 2 * (wide(q.num) * wide(n)) + wide(q.den) * invariant::inv_at(error, q, n);
         walk::walk(&rows[..held], 2 * wide(q.den), limit)
     }
 }

@@ -1,12 +1,8 @@
 -- Machine-made by tools/port from the twin of `greenwald_khanna_face`: never edited; tools/port/remake makes it anew.
 pub mod ask_Kinds
 pub mod ask_Reads
-pub mod ask_through_Kinds
-pub mod ask_through_Reads
 pub mod insert_Kinds
 pub mod insert_Reads
-pub mod insert_through_Kinds
-pub mod insert_through_Reads
 pub mod n_Kinds
 pub mod n_Reads
 pub mod open_Kinds

@@ -1,3 +1,2 @@
 pub mod By
-pub mod Near
 pub mod Posts

@@ -9,11 +9,12 @@ use borrow.Author.Tests.{le-leb, lt-leb}
 use lib.ListN.{length, take, drop}
 use Rattle.refusal.specs.declared.Refusal.the-variants.{Slots}
 use Rattle.entries.specs.declared.Entry.{Entry}
-use Rattle.greenwald_khanna_face.specs.declared.parts.Question.{Question}
-use Rattle.greenwald_khanna_face.specs.declared.parts.Question.the-variants.{Quantile, P, N, S}
-use Rattle.greenwald_khanna_face.specs.Promises.{OneOpening, OneInsert, InsertInReach, AskInReach}
-use Rattle.greenwald_khanna_face.specs.Questions.{answerTo}
-use Rattle.greenwald_khanna_face.specs.Reach.{reach}
+use Rattle.greenwald_khanna_part.specs.declared.Question.{Question}
+use Rattle.greenwald_khanna_part.specs.declared.Question.the-variants.{Quantile, P, N, S}
+use Rattle.greenwald_khanna_part.specs.InReach.{InsertInReach, AskInReach}
+use Rattle.greenwald_khanna_face.specs.Promises.{OneOpening, OneInsert}
+use Rattle.greenwald_khanna_part.specs.Questions.{answerTo}
+use Rattle.greenwald_khanna_part.specs.Reach.{reach}
 use Rattle.greenwald_khanna_steps.specs.declared.Stream.{Stream}
 use Rattle.greenwald_khanna_steps.specs.Limits.{slots, slotsOk}
 use Rattle.greenwald_khanna.specs.declared.Inserted.{Inserted}
@@ -25,7 +26,7 @@ use Rattle.greenwald_khanna.specs.Posts.{InsertPost}
 use Rattle.greenwald_khanna.proofs.Exactly.{insert-exactly, quantile-exactly, told-exactly}
 use Rattle.greenwald_khanna.proofs.Kept.{inserted-kept}
 use Rattle.greenwald_khanna.proofs.Returns.{insert-refused}
-use Rattle.greenwald_khanna_face.proofs.Near.{insert-in-reach, ask-in-reach}
+use Rattle.greenwald_khanna_part.proofs.Near.{insert-in-reach, ask-in-reach}
 
 -- the number of slots, tested
 pub few : (n : ℕ) → n < 1 → slotsOk n ≡ false

@@ -1,14 +1,11 @@
-// The whole numbers that the modules take from a fraction: ⌊f·n⌋, p, the period, inv, and the band of a delta.
+// The whole numbers that the modules take from a fraction: ⌊f·n⌋, p, the period, and the band of a delta.
 // Every function takes any words: what no rule speaks of is answered by its definition in `fraction`, and nothing traps.
 use fraction::Fraction;
 use fraction::wide;
 ghost use mathlib.Core.Path.{_≡_};
-ghost use mathlib.Core.Bool.{_&&_};
-ghost use lib.Dec.{leb};
-ghost use Rattle.fraction.specs.Allowed.{isEpsilon, isError, isPhi, observations, within};
+ghost use Rattle.fraction.specs.Allowed.{isEpsilon, within};
 ghost use Rattle.fraction.specs.Products.{floorMul, pOf, period};
 ghost use Rattle.fraction.specs.Band.{band};
-ghost use Rattle.fraction.specs.Inv.{inv, invAt};
 
 // The whole-number logarithm to base 2 of p - d + 1, by counting leading zeros. Past p the difference is 0, and so is the band.
 pub fn band(p: u32, d: u32) -> u32
@@ -48,38 +45,4 @@ pub fn period(f: Fraction) -> u32
         return 0;
     }
     (wide(f.den) / (2 * wide(f.num))) as u32
-}
-
-// inv(x) = max(1, ⌊2 · error · x⌋) of an allowed error; 0 of any other fraction.
-pub fn inv(f: Fraction, x: u32) -> u64
-    ensures { λ r. ⌜ r ≡ within (isError f) (inv f x) ⌝ }
-{
-    if f.is_error() {
-        let whole = 2 * wide(f.num) * wide(x) / wide(f.den);
-        if whole < 1 {
-            return 1;
-        }
-        return whole;
-    }
-    0
-}
-
-// inv(qn) at the fraction q of n observations: max(1, ⌊2 · error · q · n⌋); 0 where one of the three is not allowed.
-pub fn inv_at(f: Fraction, q: Fraction, n: u32) -> u64
-    ensures { λ r. ⌜ r ≡ within (isError f && (isPhi q && leb n observations)) (invAt f q n) ⌝ }
-{
-    if f.is_error() {
-        if q.is_phi() {
-            if Fraction::OBSERVATIONS < n {
-                return 0;
-            }
-            let top = 2 * wide(f.num) * wide(q.num) * wide(n);
-            let whole = top / (wide(f.den) * wide(q.den));
-            if whole < 1 {
-                return 1;
-            }
-            return whole;
-        }
-    }
-    0
 }

@@ -1,81 +1,19 @@
 -- Demand 3 of a scan that stops at the first refusal: the accepted observations are the first n, and they explain the stream.
 -- Assumes nothing.
-use mathlib.Core.Path.{_≡_, refl, sym, ap, _∙_}
-use mathlib.Core.List.{List, [], _∷_, _++_, append-nil}
-use Prim.Native.Nat.{ℕ, suc, _≤_, _<_}
+use mathlib.Core.Path.{_≡_, sym, _∙_}
+use mathlib.Core.List.{List, []}
 use native.Mathlib.Omega.{arith}
-use lib.ListN.{length, take, length-take}
-use lib.Seq.{append-snoc}
-use Rattle.refusal.proofs.Numbers.{numbered}
-use Rattle.fraction.specs.declared.Fraction.{Fraction}
+use lib.ListN.{take, length-take}
 use Rattle.entries.specs.declared.Entry.{Entry}
 use Rattle.entries.proofs.Maps.{same-words}
 use Rattle.greenwald_khanna_steps.specs.declared.Stream.{Stream}
-use Rattle.greenwald_khanna_steps.specs.Limits.{slotsOk}
 use Rattle.greenwald_khanna_steps.specs.declared.Opened.the-variants.{Open}
-use Rattle.greenwald_khanna.specs.declared.Inserted.{Inserted}
-use Rattle.greenwald_khanna.specs.declared.Inserted.the-variants.{Taken, Refused}
 use Rattle.greenwald_khanna_steps.specs.Opening.{opened, openedList}
-use Rattle.greenwald_khanna.specs.Answers.{inserted, insertedList}
-use Rattle.greenwald_khanna.proofs.Kept.{inserted-kept}
-use Rattle.noise_floor.specs.Demand3.{given}
-use Rattle.noise_floor.proofs.Bounds.{Good, good-opened, good-asked}
+use Rattle.noise_floor.proofs.Bounds.{good-opened, good-asked}
 use Rattle.scan_file.specs.Layout.{Scan}
-use Rattle.scan_text.proofs.Texts.{put-one}
-use Rattle.scan_lines.specs.Inserts.{End, onward, insertAll}
+use Rattle.scan_put.proofs.Texts.{put-one}
+use Rattle.scan_insert.proofs.Going.{Went, insert-good}
 use Rattle.scan_lines.specs.Promises.{ValuesBounded, AllOrRefused, OneReport, endFrom}
-
--- k of xs went in behind X, and the stream is good
-pub record Went (ε : Fraction) (X xs : List ℕ) (e : End) : Type 0 where
-  pub count : ℕ
-  pub most : count ≤ length xs
-  pub good : Good ε (X ++ take count xs) (given (e .ran .stream) (e .list))
-  pub whole : e .ran .refused ≡ 0 → count ≡ length xs
-  pub cut : (e .ran .refused ≡ 0 → ⊥) → count < length xs
-
-pub insert-good : (ε : Fraction) (X xs : List ℕ) (st : Stream) (list : List Entry) → Good ε X (given st list) → Went ε X xs (insertAll st list xs)
-unfolding insertAll
-insert-good ε X [] st list g = record {
-  count = 0;
-  most = omega arith;
-  good = rw (append-nil X) g;
-  whole = λ _. refl;
-  cut = λ h. absurd (h refl);
-}
-insert-good ε X (x ∷ xs) st list g = go (inserted st list x) refl (λ next h. insert-good ε (X ++ x ∷ []) xs next (insertedList st list x) h)
-  where
-    rest : Stream → End
-    rest next = insertAll next (insertedList st list x) xs
-
-    go : (a : Inserted) → inserted st list x ≡ a
-        → ((next : Stream) → Good ε (X ++ x ∷ []) (given next (insertedList st list x)) → Went ε (X ++ x ∷ []) xs (rest next))
-        → Went ε X (x ∷ xs) (onward a st (insertedList st list x) rest)
-    go (Taken next) e on =
-        let k = inserted-kept st list x next e in
-        let w = on next (record {
-          epsilon = k .epsilon ∙ g .epsilon;
-          slots = ap slotsOk (k .slots) ∙ g .slots;
-          sound-is = k .sound-is;
-          explained = k .explained X (g .explained);
-        }) in
-        let same = append-snoc X x (take (w .count) xs) in
-        record {
-          count = suc (w .count);
-          most = omega (arith, w .most);
-          good = rw same at (w .good);
-          whole = λ z. ap suc (w .whole z);
-          cut = λ z. let h = w .cut z in omega arith;
-        }
-    go (Refused why) e on =
-        let kept : insertedList st list x ≡ list = rw e in
-        let h = numbered why in
-        record {
-          count = 0;
-          most = omega arith;
-          good = rw (append-nil X, kept) g;
-          whole = λ z. absurd (omega arith);
-          cut = λ z. omega arith;
-        }
 
 module _ (s : Scan) (list : List Entry) (st : Stream) (e : opened (s .epsilon) list ≡ Open st) where
   went : Went (s .epsilon) [] (s .observations) (endFrom s list st)

@@ -16,10 +16,11 @@ use Rattle.greenwald_khanna.specs.Answers.{inserted, quantiled}
 use Rattle.scan_file.specs.Layout.{Scan, Fits, flat, encoded}
 use Rattle.scan_file.specs.Promises.{EncodedIsTaken}
 use Rattle.scan_file.proofs.Files.{encoded-is-taken}
-use Rattle.scan_text.specs.Decimal.{digitsOf}
-use Rattle.scan_lines.specs.Inserts.{insertAll}
+use Rattle.scan_put.specs.Decimal.{digitsOf}
+use Rattle.scan_insert.specs.Inserts.{insertAll}
+use Rattle.scan_write.specs.ScanLines.{texts}
 use Rattle.scan_lines.specs.Promises.{output, reading2, Reading2, blank, BlankScan}
-use Rattle.scan_lines.specs.Report.{reportOf, texts}
+use Rattle.scan_lines.specs.Report.{reportOf}
 
 -- the file of a scan is read back
 read : (s : Scan) → Fits s → output (encoded s) ≡ texts (reportOf (some s) (replicate 4096 zeroEntry) .lines)

@@ -1,5 +1,3 @@
 pub mod Bounding
 pub mod Examples
-pub mod Inserting
 pub mod Reporting
-pub mod Writing

@@ -16,13 +16,15 @@ use Rattle.scan_file.specs.declared.Parsed.the-variants as parsing
 use Rattle.scan_file.specs.Answers.{answer}
 use Rattle.scan_file.specs.Layout.{Scan, parsed}
 use Rattle.scan_file.proofs.Parsing.{scanAt, layout-taken, layout-refused}
+use Rattle.scan_put.specs.Put.{Put}
+use Rattle.scan_put.proofs.Texts.{put-counts}
 use Rattle.scan_text.specs.declared.Line.{Line}
 use Rattle.scan_text.specs.declared.Line.the-variants.{FileRefused, OpenRefused}
-use Rattle.scan_text.specs.Lines.{textOf, Put}
-use Rattle.scan_text.proofs.Texts.{put-counts}
-use Rattle.scan_lines.specs.declared.Ran.{Ran}
-use Rattle.scan_lines.specs.Inserts.{End, endOf, insertAll, whyOpened, RanPost}
-use Rattle.scan_lines.specs.Report.{Report, scanLines, inserts, opens, reportOf, texts, ReportPost}
+use Rattle.scan_text.specs.Lines.{textOf}
+use Rattle.scan_insert.specs.declared.Ran.{Ran}
+use Rattle.scan_insert.specs.Inserts.{End, endOf, insertAll, RanPost}
+use Rattle.scan_write.specs.ScanLines.{scanLines, texts}
+use Rattle.scan_lines.specs.Report.{whyOpened, Report, inserts, opens, reportOf, ReportPost}
 
 module _ (bytes : List ℕ) (before : List Entry) (out : List ℕ) (r : ℕ) (after : List ℕ) where
   -- a report that consists of known lines

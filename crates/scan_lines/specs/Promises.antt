@@ -14,9 +14,10 @@ use Rattle.greenwald_khanna_steps.specs.Opening.{opened, openedList}
 use Rattle.greenwald_khanna.specs.Answers.{quantiled}
 use Rattle.noise_floor.specs.Demand3.{Bounded}
 use Rattle.scan_file.specs.Layout.{Scan, encoded, parsed}
-use Rattle.scan_text.specs.Ascii.{ascii}
-use Rattle.scan_lines.specs.Inserts.{End, insertAll}
-use Rattle.scan_lines.specs.Report.{reportOf, texts, ReportPost}
+use Rattle.scan_put.specs.Ascii.{ascii}
+use Rattle.scan_insert.specs.Inserts.{End, insertAll}
+use Rattle.scan_write.specs.ScanLines.{texts}
+use Rattle.scan_lines.specs.Report.{reportOf, ReportPost}
 
 -- what inserting all observations of a scan comes to, after an opening that gave st
 abbrev pub endFrom : Scan → List Entry → Stream → End

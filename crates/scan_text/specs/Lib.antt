@@ -1,3 +1,1 @@
-pub mod Ascii
-pub mod Decimal
 pub mod Lines

@@ -2,8 +2,8 @@
 use fraction::Fraction;
 ghost use Prim.Native.Nat.{_+_, _≤_};
 ghost use lib.ListN.{length};
-ghost use Rattle.scan_text.specs.Decimal.{decimal};
-ghost use Rattle.scan_text.specs.Lines.{Put, named, shown, textOf, lineBytes};
+ghost use Rattle.scan_put.specs.Put.{Put};
+ghost use Rattle.scan_text.specs.Lines.{textOf, lineBytes};
 
 // A line: which one, and its numbers.
 pub enum Line {
@@ -16,67 +16,24 @@ pub enum Line {
     Refused(Fraction, u32),
 }
 
-// Puts a text at a place, and answers the place behind it.
-fn put(out: &mut [u8], at: usize, text: &[u8]) -> usize
-    requires { ⌜ at + length (now text) ≤ length (now out) ⌝ }
-    ensures { λ r. ⌜ Put (now (text .entry)) at (now (out .entry)) r (now (out .exit)) ⌝ }
-{
-    let mut i = 0;
-    while i < text.len() {
-        out[at + i] = text[i];
-        i += 1;
-    }
-    at + i
-}
-
-// Puts a number in decimal.
-fn put_number(out: &mut [u8], at: usize, n: u32) -> usize
-    requires { ⌜ at + 10 ≤ length (now out) ⌝ }
-    ensures { λ r. ⌜ Put (decimal n) at (now (out .entry)) r (now (out .exit)) × (r ≤ at + 10) ⌝ }
-{
-    let mut digits = [0u8; 20];
-    let k = io::decimal(n as u64, &mut digits);
-    put(out, at, &digits[..k])
-}
-
-// Puts words, a number and the end of the line.
-fn put_named(out: &mut [u8], at: usize, words: &[u8], n: u32) -> usize
-    requires { ⌜ at + length (now words) + 11 ≤ length (now out) ⌝ }
-    ensures { λ r. ⌜ Put (named (now (words .entry)) n) at (now (out .entry)) r (now (out .exit)) × (r ≤ at + length (now (words .entry)) + 11) ⌝ }
-{
-    let after_words = put(out, at, words);
-    let after_number = put_number(out, after_words, n);
-    put(out, after_number, b"\n")
-}
-
-// Puts a fraction as it was given.
-fn put_fraction(out: &mut [u8], at: usize, f: Fraction) -> usize
-    requires { ⌜ at + 21 ≤ length (now out) ⌝ }
-    ensures { λ r. ⌜ Put (shown f) at (now (out .entry)) r (now (out .exit)) × (r ≤ at + 21) ⌝ }
-{
-    let after_num = put_number(out, at, f.num);
-    let after_bar = put(out, after_num, b"/");
-    put_number(out, after_bar, f.den)
-}
-
 // Puts a line.
 pub fn spell(line: Line, out: &mut [u8], at: usize) -> usize
     requires { ⌜ at + lineBytes ≤ length (now out) ⌝ }
     ensures { λ r. ⌜ Put (textOf line) at (now (out .entry)) r (now (out .exit)) × (r ≤ at + lineBytes) ⌝ }
 {
     match line {
-        Line::FileRefused(n) => put_named(out, at, b"file refused ", n),
-        Line::OpenRefused(n) => put_named(out, at, b"open refused ", n),
-        Line::Taken(n) => put_named(out, at, b"taken ", n),
-        Line::Held(n) => put_named(out, at, b"held ", n),
-        Line::InsertRefused(n) => put_named(out, at, b"insert refused ", n),
+        Line::FileRefused(n) => scan_put::put_named(out, at, b"file refused ", n),
+        Line::OpenRefused(n) => scan_put::put_named(out, at, b"open refused ", n),
+        Line::Taken(n) => scan_put::put_named(out, at, b"taken ", n),
+        Line::Held(n) => scan_put::put_named(out, at, b"held ", n),
+        Line::InsertRefused(n) => scan_put::put_named(out, at, b"insert refused ", n),
         Line::Value(f, v) => {
-            let after_fraction = put_fraction(out, at, f);
-            put_named(out, after_fraction, b" ", v)
+            let after_fraction = scan_put::put_fraction(out, at, f);
+            scan_put::put_named(out, after_fraction, b" ", v)
         }
         Line::Refused(f, n) => {
-            let after_fraction = put_fraction(out, at, f);
-            put_named(out, after_fraction, b" refused ", n)
+            let after_fraction = scan_put::put_fraction(out, at, f);
+            scan_put::put_named(out, after_fraction, b" refused ", n)
         }
     }
 }

@@ -11,6 +11,7 @@ use crate::Tally;
 use model::histogram::Bound;
 use model::{Entry, Fraction, Number};
 use states::{built_ckms, built_histogram, built_store, built_stream, reached_ckms, reached_store, reached_stream};
+use std::collections::BTreeSet;
 use std::sync::atomic::{AtomicBool, Ordering::Relaxed};
 use words::{alter, alter32, alter64, edge, fraction, observations};
 
@@ -75,7 +76,7 @@ impl<const N: usize, W: Copy + Into<u64>> Lent<N, W> {
                 return Err(format!("{}: on {self:?} a refusal changed something: {ours:?}", ours.call));
             }
             tally.steps += 1;
-            tally.answered(ours.answer.err().unwrap_or(0));
+            tally.answered(ours.call, ours.answer.err().unwrap_or(0));
         }
         tally.inputs += 1;
         Ok(())
@@ -230,6 +231,33 @@ pub fn hostile_ckms(tally: &mut Tally, seed: u64, cases: u64) -> Verdict {
         let (vs, fractions) = (observations(&mut random, &lent.rows), [fraction(&mut random), fraction(&mut random)]);
         lent.judge(ckmses::<Library>(&lent, &vs, fractions), ckmses::<Model>(&lent, &vs, fractions), tally)
             .map_err(|why| format!("observations {vs:?}, fractions {fractions:?}: {why}"))?;
+    }
+    Ok(())
+}
+
+/// The refusals that document 01 lists for a call. Several inserts in a row have theirs in the answer.
+fn listed(call: &str) -> &'static [Number] {
+    match call {
+        "Stream::open" | "CKMS::open" => &[1, 2],
+        "Store::open" => &[1, 2, 3],
+        "Histogram::open" => &[1, 9, 10, 11],
+        "Histogram::insert" => &[1, 4, 5],
+        "Stream::insert" | "Store::insert" | "CKMS::insert" => &[1, 4, 5, 6],
+        "Stream::quantile" | "Store::query" | "CKMS::query" => &[1, 4, 7, 8],
+        _ if call.ends_with(", several") => &[],
+        _ => &[1, 4],
+    }
+}
+
+/// Each call was answered, met each refusal that is listed for it, and no other.
+pub fn all_met(tally: &Tally) -> Verdict {
+    let calls: BTreeSet<_> = tally.answers.keys().map(|&(call, _)| call).collect();
+    for call in calls {
+        let met: BTreeSet<Number> = tally.answers.keys().filter(|of| of.0 == call).map(|of| of.1).collect();
+        let expected: BTreeSet<Number> = listed(call).iter().copied().chain([0]).collect();
+        if met != expected {
+            return Err(format!("{call}: met {met:?}, and document 01 lists {expected:?}; 0 is an answer"));
+        }
     }
     Ok(())
 }

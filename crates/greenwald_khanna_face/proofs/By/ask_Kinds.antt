@@ -2,8 +2,8 @@
 use Rattle.entries_face.proofs.Of
 use Rattle.greenwald_khanna.proofs.Answer
 use Rattle.greenwald_khanna.proofs.Answer.Laws
-use Rattle.greenwald_khanna_face.proofs.parts.Question
-use Rattle.greenwald_khanna_face.proofs.parts.Question.Laws as Laws'
+use Rattle.greenwald_khanna_part.proofs.Question
+use Rattle.greenwald_khanna_part.proofs.Question.Laws as Laws'
 use Rattle.greenwald_khanna_steps.proofs.Stream
 use Rattle.greenwald_khanna_steps.proofs.Stream.Laws as Laws''
 use borrow.Fn.Kinds

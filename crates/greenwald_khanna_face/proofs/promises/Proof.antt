@@ -1,6 +1,6 @@
 -- `greenwald_khanna_face::promises` meets its contract: each statement is a theorem.
 -- Assumes nothing.
-use Rattle.greenwald_khanna_face.proofs.Near.{insert-in-reach, ask-in-reach}
+use Rattle.greenwald_khanna_part.proofs.Near.{insert-in-reach, ask-in-reach}
 use Rattle.greenwald_khanna_face.proofs.Posts.{one-opening, one-insert}
 use Rattle.greenwald_khanna_face.proofs.promises.Statement.{statement}
 use Rattle.greenwald_khanna_face.proofs.promises.Tie as tie

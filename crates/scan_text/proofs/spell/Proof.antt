@@ -2,7 +2,8 @@
 -- Assumes nothing.
 use native.Mathlib.Omega.{arith}
 use borrow.Author.Needs.{needs}
-use Rattle.scan_text.proofs.Texts.{put-both, as-line}
+use Rattle.scan_put.proofs.Texts.{put-both}
+use Rattle.scan_text.proofs.Lines.{as-line}
 use Rattle.scan_text.proofs.spell.Statement.{statement}
 use Rattle.scan_text.proofs.spell.Tie as tie
 

@@ -5,88 +5,53 @@ use Rattle.greenwald_khanna_face.proofs.By.ask_Kinds as Kinds
 use Rattle.greenwald_khanna_face.proofs.ask.Proof.Lts
 use Rattle.greenwald_khanna_face.proofs.By.ask_Reads as Reads
 use Rattle.greenwald_khanna_face.proofs.ask.Statement
-use Rattle.greenwald_khanna_face.proofs.ask_through.Met
-use Rattle.greenwald_khanna_face.proofs.By.ask_through_Reads as Reads'
-use Rattle.greenwald_khanna_face.proofs.ask_through.Symbol
-use Rattle.greenwald_khanna_face.proofs.parts.reach.Met as Met'
-use Rattle.greenwald_khanna_face.proofs.parts.reach.Reads as Reads''
-use Rattle.greenwald_khanna_face.proofs.parts.reach.Symbol as Symbol'
+use Rattle.greenwald_khanna_part.proofs.reach.Met
+use Rattle.greenwald_khanna_part.proofs.reach.Reads as Reads'
+use Rattle.greenwald_khanna_part.proofs.reach.Symbol
+use Rattle.greenwald_khanna_through.proofs.ask.Met as Met'
+use Rattle.greenwald_khanna_through.proofs.By.ask_Reads as Reads''
+use Rattle.greenwald_khanna_through.proofs.ask.Symbol as Symbol'
 use borrow.Fn.Run
 use borrow.Fn.Written
 use contract.Running
 
 abbrev pub Start : Type 0
-Start = Lts.Start (Reads''.Asked, Reads''.Learnt, Reads'.Asked, Reads'.Learnt) Reads.Pre Reads.Post
+Start = Lts.Start (Reads'.Asked, Reads'.Learnt, Reads''.Asked, Reads''.Learnt) Reads.Pre Reads.Post
 
 abbrev pub Then1 : Type 0
-Then1 = Lts.Then1 (Reads''.Asked, Reads''.Learnt, Reads'.Asked, Reads'.Learnt) Reads.Pre Reads.Post
+Then1 = Lts.Then1 (Reads'.Asked, Reads'.Learnt, Reads''.Asked, Reads''.Learnt) Reads.Pre Reads.Post
 
 abbrev pub Else1 : Type 0
-Else1 = Lts.Else1 (Reads''.Asked, Reads''.Learnt, Reads'.Asked, Reads'.Learnt) Reads.Pre Reads.Post
+Else1 = Lts.Else1 (Reads'.Asked, Reads'.Learnt, Reads''.Asked, Reads''.Learnt) Reads.Pre Reads.Post
 
 abbrev pub After-reach : Type 0
-After-reach = Lts.After-reach (Reads''.Asked, Reads''.Learnt, Reads'.Asked, Reads'.Learnt) Reads.Pre Reads.Post
+After-reach = Lts.After-reach (Reads'.Asked, Reads'.Learnt, Reads''.Asked, Reads''.Learnt) Reads.Pre Reads.Post
 
-abbrev pub Then2 : Type 0
-Then2 = Lts.Then2 (Reads''.Asked, Reads''.Learnt, Reads'.Asked, Reads'.Learnt) Reads.Pre Reads.Post
-
-abbrev pub After-few : Type 0
-After-few = Lts.After-few (Reads''.Asked, Reads''.Learnt, Reads'.Asked, Reads'.Learnt) Reads.Pre Reads.Post
-
-abbrev pub After-ask-through : Type 0
-After-ask-through = Lts.After-ask-through (Reads''.Asked, Reads''.Learnt, Reads'.Asked, Reads'.Learnt) Reads.Pre Reads.Post
-
-abbrev pub After-few2 : Type 0
-After-few2 = Lts.After-few2 (Reads''.Asked, Reads''.Learnt, Reads'.Asked, Reads'.Learnt) Reads.Pre Reads.Post
-
-abbrev pub Else2 : Type 0
-Else2 = Lts.Else2 (Reads''.Asked, Reads''.Learnt, Reads'.Asked, Reads'.Learnt) Reads.Pre Reads.Post
-
-abbrev pub After-rows : Type 0
-After-rows = Lts.After-rows (Reads''.Asked, Reads''.Learnt, Reads'.Asked, Reads'.Learnt) Reads.Pre Reads.Post
-
-abbrev pub After-ask-through2 : Type 0
-After-ask-through2 = Lts.After-ask-through2 (Reads''.Asked, Reads''.Learnt, Reads'.Asked, Reads'.Learnt) Reads.Pre Reads.Post
-
-abbrev pub After-rows2 : Type 0
-After-rows2 = Lts.After-rows2 (Reads''.Asked, Reads''.Learnt, Reads'.Asked, Reads'.Learnt) Reads.Pre Reads.Post
+abbrev pub After-ask : Type 0
+After-ask = Lts.After-ask (Reads'.Asked, Reads'.Learnt, Reads''.Asked, Reads''.Learnt) Reads.Pre Reads.Post
 
 abbrev pub Need-returns : Type 0
-Need-returns = Lts.Need-returns (Reads''.Asked, Reads''.Learnt, Reads'.Asked, Reads'.Learnt) Reads.Pre Reads.Post
+Need-returns = Lts.Need-returns (Reads'.Asked, Reads'.Learnt, Reads''.Asked, Reads''.Learnt) Reads.Pre Reads.Post
 
 abbrev pub Need-reach-requires : Type 0
-Need-reach-requires = Lts.Need-reach-requires (Reads''.Asked, Reads''.Learnt, Reads'.Asked, Reads'.Learnt) Reads.Pre Reads.Post
+Need-reach-requires = Lts.Need-reach-requires (Reads'.Asked, Reads'.Learnt, Reads''.Asked, Reads''.Learnt) Reads.Pre Reads.Post
 
-abbrev pub Need-slice-aggregate-ask-through : Type 0
-Need-slice-aggregate-ask-through = Lts.Need-slice-aggregate-ask-through (Reads''.Asked, Reads''.Learnt, Reads'.Asked, Reads'.Learnt) Reads.Pre Reads.Post
-
-abbrev pub Need-ask-through-requires : Type 0
-Need-ask-through-requires = Lts.Need-ask-through-requires (Reads''.Asked, Reads''.Learnt, Reads'.Asked, Reads'.Learnt) Reads.Pre Reads.Post
+abbrev pub Need-ask-requires : Type 0
+Need-ask-requires = Lts.Need-ask-requires (Reads'.Asked, Reads'.Learnt, Reads''.Asked, Reads''.Learnt) Reads.Pre Reads.Post
 
 abbrev pub Need-returns-2 : Type 0
-Need-returns-2 = Lts.Need-returns-2 (Reads''.Asked, Reads''.Learnt, Reads'.Asked, Reads'.Learnt) Reads.Pre Reads.Post
-
-abbrev pub Need-slice-aggregate-ask-through-2 : Type 0
-Need-slice-aggregate-ask-through-2 = Lts.Need-slice-aggregate-ask-through-2 (Reads''.Asked, Reads''.Learnt, Reads'.Asked, Reads'.Learnt) Reads.Pre Reads.Post
-
-abbrev pub Need-ask-through-requires-2 : Type 0
-Need-ask-through-requires-2 = Lts.Need-ask-through-requires-2 (Reads''.Asked, Reads''.Learnt, Reads'.Asked, Reads'.Learnt) Reads.Pre Reads.Post
-
-abbrev pub Need-returns-3 : Type 0
-Need-returns-3 = Lts.Need-returns-3 (Reads''.Asked, Reads''.Learnt, Reads'.Asked, Reads'.Learnt) Reads.Pre Reads.Post
+Need-returns-2 = Lts.Need-returns-2 (Reads'.Asked, Reads'.Learnt, Reads''.Asked, Reads''.Learnt) Reads.Pre Reads.Post
 
 module _ {M : Type 1} where
-  pub spec : (answer : Need-returns) → (answer : Need-reach-requires) → (answer : Need-slice-aggregate-ask-through) → (answer : Need-ask-through-requires) → (answer :
-      Need-returns-2) → (answer : Need-slice-aggregate-ask-through-2) → (answer : Need-ask-through-requires-2) → (answer : Need-returns-3) → Lts.Closed (
-        Reads''.Asked,
-        Reads''.Learnt,
-        Reads'.Asked,
-        Reads'.Learnt,
-      ) Reads.Pre Reads.Post M
-  spec = λ answer answer' answer'' answer'3 answer'4 answer'5 answer'6 answer'7. Lts.spec (Reads''.Asked, Reads''.Learnt, Reads'.Asked, Reads'.Learnt) Reads.Pre Reads.Post
-      answer answer' answer'' answer'3 answer'4 answer'5 answer'6 answer'7
+  pub spec : (answer : Need-returns) → (answer : Need-reach-requires) → (answer : Need-ask-requires) → (answer : Need-returns-2) → Lts.Closed (
+    Reads'.Asked,
+    Reads'.Learnt,
+    Reads''.Asked,
+    Reads''.Learnt,
+  ) Reads.Pre Reads.Post M
+  spec = λ answer answer' answer'' answer'3. Lts.spec (Reads'.Asked, Reads'.Learnt, Reads''.Asked, Reads''.Learnt) Reads.Pre Reads.Post answer answer' answer'' answer'3
 
-  pub close : Lts.Closed (Reads''.Asked, Reads''.Learnt, Reads'.Asked, Reads'.Learnt) Reads.Pre Reads.Post M → Statement.statement M
+  pub close : Lts.Closed (Reads'.Asked, Reads'.Learnt, Reads''.Asked, Reads''.Learnt) Reads.Pre Reads.Post M → Statement.statement M
   unfolding Code.routine Running.tablesOf
   close = λ closed 𝓤 H 𝓜 𝓖 𝓡. Written.close 1 Kinds.ps Kinds.r Reads.Ghost Reads.requires Reads.ensures Reads.pre-read Reads.Pinned Reads.Owned Reads.post-read record {
     M = M;
@@ -103,7 +68,7 @@ module _ {M : Type 1} where
     𝓜 = 𝓜;
     𝓖 = 𝓖;
     𝓡 = 𝓡;
-  }) (Reads.passes record { M = M; 𝓤 = 𝓤; H = H; 𝓜 = 𝓜; 𝓖 = 𝓖; 𝓡 = 𝓡 }) λ g. closed 𝓤 H (𝓖 .A) (Running.givenOf 𝓤 H 𝓜 𝓖) (Run.Over 𝓤 H 𝓜 𝓖 𝓡 Code.env) (Reads''.known record {
+  }) (Reads.passes record { M = M; 𝓤 = 𝓤; H = H; 𝓜 = 𝓜; 𝓖 = 𝓖; 𝓡 = 𝓡 }) λ g. closed 𝓤 H (𝓖 .A) (Running.givenOf 𝓤 H 𝓜 𝓖) (Run.Over 𝓤 H 𝓜 𝓖 𝓡 Code.env) (Reads'.known record {
     M
         = M;
     𝓤 = 𝓤;
@@ -111,12 +76,11 @@ module _ {M : Type 1} where
     𝓜 = 𝓜;
     𝓖 = 𝓖;
     𝓡 = 𝓡;
-  } Code.env Symbol'.name Symbol'.routine Code.calls-greenwald-khanna-face·parts·reach (Met'.met 𝓤 H 𝓜 𝓖 𝓡)) (Reads'.known record {
-    M =
-        M;
+  } Code.env Symbol.name Symbol.routine Code.calls-greenwald-khanna-part·reach (Met.met 𝓤 H 𝓜 𝓖 𝓡)) (Reads''.known record {
+    M = M;
     𝓤 = 𝓤;
     H = H;
     𝓜 = 𝓜;
     𝓖 = 𝓖;
     𝓡 = 𝓡;
-  } Code.env Symbol.name Symbol.routine Code.calls-greenwald-khanna-face·ask-through (Met.met 𝓤 H 𝓜 𝓖 𝓡))
+  } Code.env Symbol'.name Symbol'.routine Code.calls-greenwald-khanna-through·ask (Met'.met 𝓤 H 𝓜 𝓖 𝓡))

@@ -5,8 +5,8 @@ use Rattle.fraction.proofs.Fraction
 use Rattle.fraction.proofs.Fraction.Laws
 use Rattle.greenwald_khanna.proofs.Answer
 use Rattle.greenwald_khanna.proofs.Answer.Laws as Laws'
-use Rattle.greenwald_khanna_face.proofs.parts.Question
-use Rattle.greenwald_khanna_face.proofs.parts.Question.Laws as Laws''
+use Rattle.greenwald_khanna_part.proofs.Question
+use Rattle.greenwald_khanna_part.proofs.Question.Laws as Laws''
 use Rattle.greenwald_khanna_steps.proofs.Stream
 use Rattle.greenwald_khanna_steps.proofs.Stream.Laws as Laws'3
 use borrow.Author.Called
@@ -115,12 +115,11 @@ r = Value.rVal record {
 
 abbrev pub xs : List.List Syntax.Ty
 xs = List._∷_ (Syntax.tyEnum (List._∷_ 103 (List._∷_ 114 (List._∷_ 101 (List._∷_ 101 (List._∷_ 110 (List._∷_ 119 (List._∷_ 97 (List._∷_ 108 (List._∷_ 100 (List._∷_ 95 (List._∷_ 107
-    (List._∷_ 104 (List._∷_ 97 (List._∷_ 110 (List._∷_ 110 (List._∷_ 97 (List._∷_ 95 (List._∷_ 102 (List._∷_ 97 (List._∷_ 99 (List._∷_ 101 (List._∷_ 58 (List._∷_ 58 (List._∷_ 112
-    (List._∷_ 97 (List._∷_ 114 (List._∷_ 116 (List._∷_ 115 (List._∷_ 58 (List._∷_ 58 (List._∷_ 81 (List._∷_ 117 (List._∷_ 101 (List._∷_ 115 (List._∷_ 116 (List._∷_ 105 (List._∷_
-    111 (List._∷_ 110 List.[])))))))))))))))))))))))))))))))))))))) (Syntax.ttcons (Syntax.tcons (Syntax.tyStruct (List._∷_ 102 (List._∷_ 114 (List._∷_ 97 (List._∷_ 99 (List._∷_
-    116 (List._∷_ 105 (List._∷_ 111 (List._∷_ 110 (List._∷_ 58 (List._∷_ 58 (List._∷_ 70 (List._∷_ 114 (List._∷_ 97 (List._∷_ 99 (List._∷_ 116 (List._∷_ 105 (List._∷_ 111 (List._∷_
-    110 List.[])))))))))))))))))) (Syntax.tcons (Syntax.tyInt Syntax.w32) (Syntax.tcons (Syntax.tyInt Syntax.w32) Syntax.tnil))) Syntax.tnil) (Syntax.ttcons Syntax.tnil
-    (Syntax.ttcons Syntax.tnil (Syntax.ttcons Syntax.tnil Syntax.ttnil))))) List.[]
+    (List._∷_ 104 (List._∷_ 97 (List._∷_ 110 (List._∷_ 110 (List._∷_ 97 (List._∷_ 95 (List._∷_ 112 (List._∷_ 97 (List._∷_ 114 (List._∷_ 116 (List._∷_ 58 (List._∷_ 58 (List._∷_ 81
+    (List._∷_ 117 (List._∷_ 101 (List._∷_ 115 (List._∷_ 116 (List._∷_ 105 (List._∷_ 111 (List._∷_ 110 List.[]))))))))))))))))))))))))))))))) (Syntax.ttcons (Syntax.tcons
+    (Syntax.tyStruct (List._∷_ 102 (List._∷_ 114 (List._∷_ 97 (List._∷_ 99 (List._∷_ 116 (List._∷_ 105 (List._∷_ 111 (List._∷_ 110 (List._∷_ 58 (List._∷_ 58 (List._∷_ 70 (List._∷_
+    114 (List._∷_ 97 (List._∷_ 99 (List._∷_ 116 (List._∷_ 105 (List._∷_ 111 (List._∷_ 110 List.[])))))))))))))))))) (Syntax.tcons (Syntax.tyInt Syntax.w32) (Syntax.tcons
+    (Syntax.tyInt Syntax.w32) Syntax.tnil))) Syntax.tnil) (Syntax.ttcons Syntax.tnil (Syntax.ttcons Syntax.tnil (Syntax.ttcons Syntax.tnil Syntax.ttnil))))) List.[]
 
 abbrev pub m : Nat.ℕ
 m = 0
@@ -227,12 +226,11 @@ t0 = List._∷_ (
   4,
   Rows.any-gone (Syntax.tyEnum
       (List._∷_ 103 (List._∷_ 114 (List._∷_ 101 (List._∷_ 101 (List._∷_ 110 (List._∷_ 119 (List._∷_ 97 (List._∷_ 108 (List._∷_ 100 (List._∷_ 95 (List._∷_ 107 (List._∷_ 104 (List._∷_
-      97 (List._∷_ 110 (List._∷_ 110 (List._∷_ 97 (List._∷_ 95 (List._∷_ 102 (List._∷_ 97 (List._∷_ 99 (List._∷_ 101 (List._∷_ 58 (List._∷_ 58 (List._∷_ 112 (List._∷_ 97 (List._∷_
-      114 (List._∷_ 116 (List._∷_ 115 (List._∷_ 58 (List._∷_ 58 (List._∷_ 81 (List._∷_ 117 (List._∷_ 101 (List._∷_ 115 (List._∷_ 116 (List._∷_ 105 (List._∷_ 111 (List._∷_ 110
-      List.[])))))))))))))))))))))))))))))))))))))) (Syntax.ttcons (Syntax.tcons (Syntax.tyStruct (List._∷_ 102 (List._∷_ 114 (List._∷_ 97 (List._∷_ 99 (List._∷_ 116 (List._∷_ 105
-      (List._∷_ 111 (List._∷_ 110 (List._∷_ 58 (List._∷_ 58 (List._∷_ 70 (List._∷_ 114 (List._∷_ 97 (List._∷_ 99 (List._∷_ 116 (List._∷_ 105 (List._∷_ 111 (List._∷_ 110
-      List.[])))))))))))))))))) (Syntax.tcons (Syntax.tyInt Syntax.w32) (Syntax.tcons (Syntax.tyInt Syntax.w32) Syntax.tnil))) Syntax.tnil) (Syntax.ttcons Syntax.tnil (Syntax.ttcons
-      Syntax.tnil (Syntax.ttcons Syntax.tnil Syntax.ttnil))))),
+      97 (List._∷_ 110 (List._∷_ 110 (List._∷_ 97 (List._∷_ 95 (List._∷_ 112 (List._∷_ 97 (List._∷_ 114 (List._∷_ 116 (List._∷_ 58 (List._∷_ 58 (List._∷_ 81 (List._∷_ 117 (List._∷_
+      101 (List._∷_ 115 (List._∷_ 116 (List._∷_ 105 (List._∷_ 111 (List._∷_ 110 List.[]))))))))))))))))))))))))))))))) (Syntax.ttcons (Syntax.tcons (Syntax.tyStruct (List._∷_ 102
+      (List._∷_ 114 (List._∷_ 97 (List._∷_ 99 (List._∷_ 116 (List._∷_ 105 (List._∷_ 111 (List._∷_ 110 (List._∷_ 58 (List._∷_ 58 (List._∷_ 70 (List._∷_ 114 (List._∷_ 97 (List._∷_ 99
+      (List._∷_ 116 (List._∷_ 105 (List._∷_ 111 (List._∷_ 110 List.[])))))))))))))))))) (Syntax.tcons (Syntax.tyInt Syntax.w32) (Syntax.tcons (Syntax.tyInt Syntax.w32) Syntax.tnil)))
+      Syntax.tnil) (Syntax.ttcons Syntax.tnil (Syntax.ttcons Syntax.tnil (Syntax.ttcons Syntax.tnil Syntax.ttnil))))),
 ) List.[]))))
 
 abbrev pub t1 : List.List Row.Entry
@@ -254,12 +252,12 @@ t1 = List._∷_ (0, Rows.whole (Declared.row Answer.the-type)) (List._∷_ (
     (List._∷_ (
       4,
       Rows.any-gone (Syntax.tyEnum (List._∷_ 103 (List._∷_ 114 (List._∷_ 101 (List._∷_ 101 (List._∷_ 110 (List._∷_ 119 (List._∷_ 97 (List._∷_ 108 (List._∷_ 100
-          (List._∷_ 95 (List._∷_ 107 (List._∷_ 104 (List._∷_ 97 (List._∷_ 110 (List._∷_ 110 (List._∷_ 97 (List._∷_ 95 (List._∷_ 102 (List._∷_ 97 (List._∷_ 99 (List._∷_ 101 (List._∷_ 58
-          (List._∷_ 58 (List._∷_ 112 (List._∷_ 97 (List._∷_ 114 (List._∷_ 116 (List._∷_ 115 (List._∷_ 58 (List._∷_ 58 (List._∷_ 81 (List._∷_ 117 (List._∷_ 101 (List._∷_ 115 (List._∷_ 116
-          (List._∷_ 105 (List._∷_ 111 (List._∷_ 110 List.[])))))))))))))))))))))))))))))))))))))) (Syntax.ttcons (Syntax.tcons (Syntax.tyStruct (List._∷_ 102 (List._∷_ 114 (List._∷_ 97
-          (List._∷_ 99 (List._∷_ 116 (List._∷_ 105 (List._∷_ 111 (List._∷_ 110 (List._∷_ 58 (List._∷_ 58 (List._∷_ 70 (List._∷_ 114 (List._∷_ 97 (List._∷_ 99 (List._∷_ 116 (List._∷_ 105
-          (List._∷_ 111 (List._∷_ 110 List.[])))))))))))))))))) (Syntax.tcons (Syntax.tyInt Syntax.w32) (Syntax.tcons (Syntax.tyInt Syntax.w32) Syntax.tnil))) Syntax.tnil) (Syntax.ttcons
-          Syntax.tnil (Syntax.ttcons Syntax.tnil (Syntax.ttcons Syntax.tnil Syntax.ttnil))))),
+          (List._∷_ 95 (List._∷_ 107 (List._∷_ 104 (List._∷_ 97 (List._∷_ 110 (List._∷_ 110 (List._∷_ 97 (List._∷_ 95 (List._∷_ 112 (List._∷_ 97 (List._∷_ 114 (List._∷_ 116 (List._∷_ 58
+          (List._∷_ 58 (List._∷_ 81 (List._∷_ 117 (List._∷_ 101 (List._∷_ 115 (List._∷_ 116 (List._∷_ 105 (List._∷_ 111 (List._∷_ 110 List.[])))))))))))))))))))))))))))))))
+          (Syntax.ttcons (Syntax.tcons (Syntax.tyStruct (List._∷_ 102 (List._∷_ 114 (List._∷_ 97 (List._∷_ 99 (List._∷_ 116 (List._∷_ 105 (List._∷_ 111 (List._∷_ 110 (List._∷_ 58
+          (List._∷_ 58 (List._∷_ 70 (List._∷_ 114 (List._∷_ 97 (List._∷_ 99 (List._∷_ 116 (List._∷_ 105 (List._∷_ 111 (List._∷_ 110 List.[])))))))))))))))))) (Syntax.tcons (Syntax.tyInt
+          Syntax.w32) (Syntax.tcons (Syntax.tyInt Syntax.w32) Syntax.tnil))) Syntax.tnil) (Syntax.ttcons Syntax.tnil (Syntax.ttcons Syntax.tnil (Syntax.ttcons Syntax.tnil
+          Syntax.ttnil))))),
     ) List.[]))))
 
 abbrev pub t2 : List.List Row.Entry
@@ -403,12 +401,11 @@ module _ (claims· : Claims) where
 
   abbrev s4 : Typed.Mo T5 → Typed.Mo T6
   s4 = Scalar.n-room T5 4 (Syntax.tyEnum (List._∷_ 103 (List._∷_ 114 (List._∷_ 101 (List._∷_ 101 (List._∷_ 110 (List._∷_ 119 (List._∷_ 97 (List._∷_ 108 (List._∷_ 100 (List._∷_ 95
-      (List._∷_ 107 (List._∷_ 104 (List._∷_ 97 (List._∷_ 110 (List._∷_ 110 (List._∷_ 97 (List._∷_ 95 (List._∷_ 102 (List._∷_ 97 (List._∷_ 99 (List._∷_ 101 (List._∷_ 58 (List._∷_ 58
-      (List._∷_ 112 (List._∷_ 97 (List._∷_ 114 (List._∷_ 116 (List._∷_ 115 (List._∷_ 58 (List._∷_ 58 (List._∷_ 81 (List._∷_ 117 (List._∷_ 101 (List._∷_ 115 (List._∷_ 116 (List._∷_
-      105 (List._∷_ 111 (List._∷_ 110 List.[])))))))))))))))))))))))))))))))))))))) (Syntax.ttcons (Syntax.tcons (Syntax.tyStruct (List._∷_ 102 (List._∷_ 114 (List._∷_ 97 (List._∷_
-      99 (List._∷_ 116 (List._∷_ 105 (List._∷_ 111 (List._∷_ 110 (List._∷_ 58 (List._∷_ 58 (List._∷_ 70 (List._∷_ 114 (List._∷_ 97 (List._∷_ 99 (List._∷_ 116 (List._∷_ 105
-      (List._∷_ 111 (List._∷_ 110 List.[])))))))))))))))))) (Syntax.tcons (Syntax.tyInt Syntax.w32) (Syntax.tcons (Syntax.tyInt Syntax.w32) Syntax.tnil))) Syntax.tnil)
-      (Syntax.ttcons Syntax.tnil (Syntax.ttcons Syntax.tnil (Syntax.ttcons Syntax.tnil Syntax.ttnil)))))
+      (List._∷_ 107 (List._∷_ 104 (List._∷_ 97 (List._∷_ 110 (List._∷_ 110 (List._∷_ 97 (List._∷_ 95 (List._∷_ 112 (List._∷_ 97 (List._∷_ 114 (List._∷_ 116 (List._∷_ 58 (List._∷_
+      58 (List._∷_ 81 (List._∷_ 117 (List._∷_ 101 (List._∷_ 115 (List._∷_ 116 (List._∷_ 105 (List._∷_ 111 (List._∷_ 110 List.[]))))))))))))))))))))))))))))))) (Syntax.ttcons
+      (Syntax.tcons (Syntax.tyStruct (List._∷_ 102 (List._∷_ 114 (List._∷_ 97 (List._∷_ 99 (List._∷_ 116 (List._∷_ 105 (List._∷_ 111 (List._∷_ 110 (List._∷_ 58 (List._∷_ 58
+      (List._∷_ 70 (List._∷_ 114 (List._∷_ 97 (List._∷_ 99 (List._∷_ 116 (List._∷_ 105 (List._∷_ 111 (List._∷_ 110 List.[])))))))))))))))))) (Syntax.tcons (Syntax.tyInt Syntax.w32)
+      (Syntax.tcons (Syntax.tyInt Syntax.w32) Syntax.tnil))) Syntax.tnil) (Syntax.ttcons Syntax.tnil (Syntax.ttcons Syntax.tnil (Syntax.ttcons Syntax.tnil Syntax.ttnil)))))
 
   module _ (Pre· : (κs : Lifetimes.Lfts 1) → Kinds.Dens κs ps → Type 0) (Post· : (κs : Lifetimes.Lfts 1) → (a : Kinds.Dens κs ps) → Kinds.Plain 1 ps r κs) where
     module _ (M : Type 1) where
@@ -478,19 +475,18 @@ module _ (claims· : Claims) where
           d1 : Typed.Typed 𝓤 H A 𝓣 E G5 b2 Δ0 at1
           d1 = Typed.g-pre 𝓤 H A W 𝓣 E G5 G6 b2 Δ0 (Typed.pass T5 T6 s4) at0 (Scalar.g-room 𝓤 H A W E G5 4 (Syntax.tyEnum (List._∷_ 103 (List._∷_ 114 (List._∷_ 101 (List._∷_ 101
               (List._∷_ 110 (List._∷_ 119 (List._∷_ 97 (List._∷_ 108 (List._∷_ 100 (List._∷_ 95 (List._∷_ 107 (List._∷_ 104 (List._∷_ 97 (List._∷_ 110 (List._∷_ 110 (List._∷_ 97
-              (List._∷_ 95 (List._∷_ 102 (List._∷_ 97 (List._∷_ 99 (List._∷_ 101 (List._∷_ 58 (List._∷_ 58 (List._∷_ 112 (List._∷_ 97 (List._∷_ 114 (List._∷_ 116 (List._∷_ 115
-              (List._∷_ 58 (List._∷_ 58 (List._∷_ 81 (List._∷_ 117 (List._∷_ 101 (List._∷_ 115 (List._∷_ 116 (List._∷_ 105 (List._∷_ 111 (List._∷_ 110
-              List.[])))))))))))))))))))))))))))))))))))))) (Syntax.ttcons (Syntax.tcons (Syntax.tyStruct (List._∷_ 102 (List._∷_ 114 (List._∷_ 97 (List._∷_ 99 (List._∷_ 116
-              (List._∷_ 105 (List._∷_ 111 (List._∷_ 110 (List._∷_ 58 (List._∷_ 58 (List._∷_ 70 (List._∷_ 114 (List._∷_ 97 (List._∷_ 99 (List._∷_ 116 (List._∷_ 105 (List._∷_ 111
-              (List._∷_ 110 List.[])))))))))))))))))) (Syntax.tcons (Syntax.tyInt Syntax.w32) (Syntax.tcons (Syntax.tyInt Syntax.w32) Syntax.tnil))) Syntax.tnil) (Syntax.ttcons
-              Syntax.tnil (Syntax.ttcons Syntax.tnil (Syntax.ttcons Syntax.tnil Syntax.ttnil))))) (Local.room-whole 𝓤 H A W (Declared.row Question.the-type) (Syntax.tyEnum
-              (List._∷_ 103 (List._∷_ 114 (List._∷_ 101 (List._∷_ 101 (List._∷_ 110 (List._∷_ 119 (List._∷_ 97 (List._∷_ 108 (List._∷_ 100 (List._∷_ 95 (List._∷_ 107 (List._∷_ 104
-              (List._∷_ 97 (List._∷_ 110 (List._∷_ 110 (List._∷_ 97 (List._∷_ 95 (List._∷_ 102 (List._∷_ 97 (List._∷_ 99 (List._∷_ 101 (List._∷_ 58 (List._∷_ 58 (List._∷_ 112
-              (List._∷_ 97 (List._∷_ 114 (List._∷_ 116 (List._∷_ 115 (List._∷_ 58 (List._∷_ 58 (List._∷_ 81 (List._∷_ 117 (List._∷_ 101 (List._∷_ 115 (List._∷_ 116 (List._∷_ 105
-              (List._∷_ 111 (List._∷_ 110 List.[])))))))))))))))))))))))))))))))))))))) (Syntax.ttcons (Syntax.tcons (Syntax.tyStruct (List._∷_ 102 (List._∷_ 114 (List._∷_ 97
-              (List._∷_ 99 (List._∷_ 116 (List._∷_ 105 (List._∷_ 111 (List._∷_ 110 (List._∷_ 58 (List._∷_ 58 (List._∷_ 70 (List._∷_ 114 (List._∷_ 97 (List._∷_ 99 (List._∷_ 116
+              (List._∷_ 95 (List._∷_ 112 (List._∷_ 97 (List._∷_ 114 (List._∷_ 116 (List._∷_ 58 (List._∷_ 58 (List._∷_ 81 (List._∷_ 117 (List._∷_ 101 (List._∷_ 115 (List._∷_ 116
+              (List._∷_ 105 (List._∷_ 111 (List._∷_ 110 List.[]))))))))))))))))))))))))))))))) (Syntax.ttcons (Syntax.tcons (Syntax.tyStruct (List._∷_ 102 (List._∷_ 114 (List._∷_
+              97 (List._∷_ 99 (List._∷_ 116 (List._∷_ 105 (List._∷_ 111 (List._∷_ 110 (List._∷_ 58 (List._∷_ 58 (List._∷_ 70 (List._∷_ 114 (List._∷_ 97 (List._∷_ 99 (List._∷_ 116
               (List._∷_ 105 (List._∷_ 111 (List._∷_ 110 List.[])))))))))))))))))) (Syntax.tcons (Syntax.tyInt Syntax.w32) (Syntax.tcons (Syntax.tyInt Syntax.w32) Syntax.tnil)))
-              Syntax.tnil) (Syntax.ttcons Syntax.tnil (Syntax.ttcons Syntax.tnil (Syntax.ttcons Syntax.tnil Syntax.ttnil))))) Path'.refl)) d0
+              Syntax.tnil) (Syntax.ttcons Syntax.tnil (Syntax.ttcons Syntax.tnil (Syntax.ttcons Syntax.tnil Syntax.ttnil))))) (Local.room-whole 𝓤 H A W (Declared.row
+              Question.the-type) (Syntax.tyEnum (List._∷_ 103 (List._∷_ 114 (List._∷_ 101 (List._∷_ 101 (List._∷_ 110 (List._∷_ 119 (List._∷_ 97 (List._∷_ 108 (List._∷_ 100
+              (List._∷_ 95 (List._∷_ 107 (List._∷_ 104 (List._∷_ 97 (List._∷_ 110 (List._∷_ 110 (List._∷_ 97 (List._∷_ 95 (List._∷_ 112 (List._∷_ 97 (List._∷_ 114 (List._∷_ 116
+              (List._∷_ 58 (List._∷_ 58 (List._∷_ 81 (List._∷_ 117 (List._∷_ 101 (List._∷_ 115 (List._∷_ 116 (List._∷_ 105 (List._∷_ 111 (List._∷_ 110
+              List.[]))))))))))))))))))))))))))))))) (Syntax.ttcons (Syntax.tcons (Syntax.tyStruct (List._∷_ 102 (List._∷_ 114 (List._∷_ 97 (List._∷_ 99 (List._∷_ 116 (List._∷_ 105
+              (List._∷_ 111 (List._∷_ 110 (List._∷_ 58 (List._∷_ 58 (List._∷_ 70 (List._∷_ 114 (List._∷_ 97 (List._∷_ 99 (List._∷_ 116 (List._∷_ 105 (List._∷_ 111 (List._∷_ 110
+              List.[])))))))))))))))))) (Syntax.tcons (Syntax.tyInt Syntax.w32) (Syntax.tcons (Syntax.tyInt Syntax.w32) Syntax.tnil))) Syntax.tnil) (Syntax.ttcons Syntax.tnil
+              (Syntax.ttcons Syntax.tnil (Syntax.ttcons Syntax.tnil Syntax.ttnil))))) Path'.refl)) d0
 
           d2 : Typed.Typed 𝓤 H A 𝓣 E G4 b2 Δ0 at2
           d2 = Typed.g-pre 𝓤 H A W 𝓣 E G4 G5 b2 Δ0 (Typed.pass T4 T5 s3) at1 (Scalar.g-room 𝓤 H A W E G4 1 (Syntax.tyStruct (List._∷_ 103 (List._∷_ 114 (List._∷_ 101 (List._∷_ 101
@@ -561,28 +557,30 @@ module _ (claims· : Claims) where
               List.[])))))))))))))))))) (Syntax.tcons (Syntax.tyInt Syntax.w32) (Syntax.tcons (Syntax.tyInt Syntax.w32) Syntax.tnil))) (Laws'5.val Fraction.the-type Laws.the-laws))
               List.[])) (λ m. Question.enum .make (Logic.inl (m .1 .1 .1 .0, tt))) (Reads'.room-gone 𝓤 H A (Syntax.tyEnum (List._∷_ 103 (List._∷_ 114 (List._∷_ 101 (List._∷_ 101
               (List._∷_ 110 (List._∷_ 119 (List._∷_ 97 (List._∷_ 108 (List._∷_ 100 (List._∷_ 95 (List._∷_ 107 (List._∷_ 104 (List._∷_ 97 (List._∷_ 110 (List._∷_ 110 (List._∷_ 97
-              (List._∷_ 95 (List._∷_ 102 (List._∷_ 97 (List._∷_ 99 (List._∷_ 101 (List._∷_ 58 (List._∷_ 58 (List._∷_ 112 (List._∷_ 97 (List._∷_ 114 (List._∷_ 116 (List._∷_ 115
-              (List._∷_ 58 (List._∷_ 58 (List._∷_ 81 (List._∷_ 117 (List._∷_ 101 (List._∷_ 115 (List._∷_ 116 (List._∷_ 105 (List._∷_ 111 (List._∷_ 110
-              List.[])))))))))))))))))))))))))))))))))))))) (Syntax.ttcons (Syntax.tcons (Syntax.tyStruct (List._∷_ 102 (List._∷_ 114 (List._∷_ 97 (List._∷_ 99 (List._∷_ 116
-              (List._∷_ 105 (List._∷_ 111 (List._∷_ 110 (List._∷_ 58 (List._∷_ 58 (List._∷_ 70 (List._∷_ 114 (List._∷_ 97 (List._∷_ 99 (List._∷_ 116 (List._∷_ 105 (List._∷_ 111
-              (List._∷_ 110 List.[])))))))))))))))))) (Syntax.tcons (Syntax.tyInt Syntax.w32) (Syntax.tcons (Syntax.tyInt Syntax.w32) Syntax.tnil))) Syntax.tnil) (Syntax.ttcons
-              Syntax.tnil (Syntax.ttcons Syntax.tnil (Syntax.ttcons Syntax.tnil Syntax.ttnil)))))) (
+              (List._∷_ 95 (List._∷_ 112 (List._∷_ 97 (List._∷_ 114 (List._∷_ 116 (List._∷_ 58 (List._∷_ 58 (List._∷_ 81 (List._∷_ 117 (List._∷_ 101 (List._∷_ 115 (List._∷_ 116
+              (List._∷_ 105 (List._∷_ 111 (List._∷_ 110 List.[]))))))))))))))))))))))))))))))) (Syntax.ttcons (Syntax.tcons (Syntax.tyStruct (List._∷_ 102 (List._∷_ 114 (List._∷_
+              97 (List._∷_ 99 (List._∷_ 116 (List._∷_ 105 (List._∷_ 111 (List._∷_ 110 (List._∷_ 58 (List._∷_ 58 (List._∷_ 70 (List._∷_ 114 (List._∷_ 97 (List._∷_ 99 (List._∷_ 116
+              (List._∷_ 105 (List._∷_ 111 (List._∷_ 110 List.[])))))))))))))))))) (Syntax.tcons (Syntax.tyInt Syntax.w32) (Syntax.tcons (Syntax.tyInt Syntax.w32) Syntax.tnil)))
+              Syntax.tnil) (Syntax.ttcons Syntax.tnil (Syntax.ttcons Syntax.tnil (Syntax.ttcons Syntax.tnil Syntax.ttnil)))))) (
                 tt,
                 (
-                  (Reads.reads-struct 𝓤 H A W Fraction.the-type Laws.the-laws, Path'.refl),
+                  (
+                    Reads.reads-struct 𝓤 H A W Fraction.the-type
+                        Laws.the-laws,
+                    Path'.refl,
+                  ),
                   tt,
                 ),
-              ) Path'.refl (λ m wa. Make.made-val Question.the-type Laws''.the-laws (List._∷_ (Laws'5.val Fraction.the-type Laws.the-laws (m .1 .1 .1 .0)) List.[])
-              (Question.enum .make (Logic.inl (m .1 .1 .1 .0, tt))) (
-                Signed.made-wt Fraction.the-field Laws.the-field-laws (Make'.struct-wt Fraction.the-type Laws.the-laws (
-                  Make'.u32-wt,
-                  (Make'.u32-wt, tt),
-                )) (Fraction.the-type .to (m .1 .1 .1 .0)),
+              ) Path'.refl (λ m wa. Make.made-val Question.the-type Laws''.the-laws (List._∷_ (Laws'5.val Fraction.the-type Laws.the-laws (m .1 .1
+              .1 .0)) List.[]) (Question.enum .make (Logic.inl (m .1 .1 .1 .0, tt))) (
+                Signed.made-wt Fraction.the-field Laws.the-field-laws (Make'.struct-wt Fraction.the-type
+                    Laws.the-laws (Make'.u32-wt, (Make'.u32-wt, tt))) (Fraction.the-type .to (m .1 .1 .1 .0)),
                 tt,
-              ) (wa .1)) λ m wa. Make.made-is Question.the-type Laws''.the-laws (List._∷_
-              (Laws'5.val Fraction.the-type Laws.the-laws (m .1 .1 .1 .0)) List.[]) (Question.enum .make (Logic.inl (m .1 .1 .1 .0, tt))) (
-                Signed.made-wt Fraction.the-field
-                    Laws.the-field-laws (Make'.struct-wt Fraction.the-type Laws.the-laws (Make'.u32-wt, (Make'.u32-wt, tt))) (Fraction.the-type .to (m .1 .1 .1 .0)),
+              ) (wa .1)) λ m wa. Make.made-is Question.the-type Laws''.the-laws
+              (List._∷_ (Laws'5.val Fraction.the-type Laws.the-laws (m .1 .1 .1 .0)) List.[]) (Question.enum .make (Logic.inl (m .1 .1 .1 .0, tt))) (
+                Signed.made-wt
+                    Fraction.the-field Laws.the-field-laws (Make'.struct-wt Fraction.the-type Laws.the-laws (Make'.u32-wt, (Make'.u32-wt, tt))) (Fraction.the-type .to (m .1 .1 .1
+                    .0)),
                 tt,
               ) (wa .1)) d4
 

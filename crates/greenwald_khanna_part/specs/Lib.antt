@@ -1,0 +1,3 @@
+pub mod InReach
+pub mod Questions
+pub mod Reach
