@@ -1,4 +1,4 @@
-/* Noise floors with a proved error bound: the functions of libquantiles_c.a (made by `rt staticlib quantiles_c`), for x86-64.
+/* Noise floors with a proved error bound: the functions of libstelomavunt.a (made by `./archive`), for x86-64.
  *
  * All memory is lent by the caller, as a pointer and a count of elements, and no pointer is kept. A state is a struct of plain words, passed by
  * value, that anyone may store; nothing in it is trusted. Every call, on every words and numbers, ends with an answer or a numbered refusal:

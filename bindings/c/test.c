@@ -1,4 +1,4 @@
-/* The customer's readings and each refusal, from C:  cc -std=c99 -Wall -Wextra -Werror test.c libquantiles_c.a -o test && ./test */
+/* The customer's readings and each refusal, from C:  cc -std=c99 -Wall -Wextra -Werror test.c libstelomavunt.a -o test && ./test */
 #include "stelomavunt.h"
 
 #include <math.h>

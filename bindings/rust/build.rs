@@ -1,8 +1,8 @@
-//! Links libquantiles_c.a, the proved functions: from STELOMAVUNT_LIB_DIR if it is set, else from where `rt staticlib quantiles_c` writes it.
+//! Links libstelomavunt.a, the proved functions: from STELOMAVUNT_LIB_DIR if it is set, else from where `./archive` writes it.
 use std::env;
 use std::path::{Path, PathBuf};
 
-const ARCHIVE: &str = "libquantiles_c.a";
+const ARCHIVE: &str = "libstelomavunt.a";
 
 fn main() {
     println!("cargo::rerun-if-env-changed=STELOMAVUNT_LIB_DIR");
@@ -15,11 +15,11 @@ fn main() {
     println!("cargo::rerun-if-changed={}", archive.display());
     if !archive.is_file() {
         println!(
-            "cargo::error={} is missing: run `rt staticlib quantiles_c` at the top of the repository, or set STELOMAVUNT_LIB_DIR to the folder that has {ARCHIVE}",
+            "cargo::error={} is missing: run `./archive` at the top of the repository, or set STELOMAVUNT_LIB_DIR to the folder that has {ARCHIVE}",
             archive.display()
         );
         return;
     }
     println!("cargo::rustc-link-search=native={}", dir.display());
-    println!("cargo::rustc-link-lib=static=quantiles_c");
+    println!("cargo::rustc-link-lib=static=stelomavunt");
 }

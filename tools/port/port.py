@@ -156,7 +156,7 @@ def derive(crate, wanted):
     shutil.rmtree(WORK / 'gen', ignore_errors=True)
     types = declared(crates)
     bodies = ' '.join(f['body'] for _, module, text in sources(crate) for f in functions(text) if dotted(module, f['name']) in wanted)
-    called = set(re.findall(r'\w+', bodies)) | {m[1] for c in crates for _, _, text in sources(c) for m in re.finditer(r'(?m)^use [\w:]*::(\w+);', text)}
+    called = set(re.findall(r'\w+', bodies)) | {m[1] for c in crates for _, _, text in sources(c) for m in re.finditer(r'(?m)^(?:pub )?use [\w:]*::(\w+);', text)}
     for c in crates:
         for name, module, text in sources(c):
             own = {f.split('.')[-1] for f in wanted if f.rpartition('.')[0] == module} if c == crate else set()

@@ -1,4 +1,4 @@
-//! The functions of libquantiles_c.a, and a safe one over each. This is the only unsafe code of the crate.
+//! The functions of libstelomavunt.a, and a safe one over each. This is the only unsafe code of the crate.
 //!
 //! The archive's functions have no precondition of their own: they are proved, for every state and every number, to end, to read and write only
 //! within the slices that they are lent, and they keep no pointer. What a caller in another language still owes is what C's types cannot say:

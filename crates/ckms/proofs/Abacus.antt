@@ -8,8 +8,8 @@ use Rattle.ckms_theory.specs.Lists.{entriesSound, blocksSound}
 use Rattle.ckms_theory.specs.Squash.{squash, stays, squashed, marks, kept}
 use Rattle.ckms_theory.specs.Walk.{walk, lookUp}
 use Rattle.ckms_store.specs.Answers as store
-use Rattle.ckms_store_steps.specs.Held.{newDelta, put, tidy}
 use Rattle.ckms_store_steps.specs.Sound.{sound}
+use Rattle.ckms_store_work.specs.Changes.{newDelta, put, tidy}
 use Rattle.ckms_told.specs.Answers.{cmaOf}
 use Rattle.ckms.specs.Answers.{inserted, queried}
 use Rattle.ckms.specs.Readings.{run, CkmsReadings}

@@ -12,7 +12,7 @@ ghost use Rattle.ckms_theory.specs.Pass.{Turned, Passed, Whole, Finished, Squas
 ghost use Rattle.ckms_theory.specs.Squash.{stepRank, merges, merged};
 
 // r of the step that looks at place i, as the Rust counts it.
-pub fn step_rank(i: usize) -> u32
+fn step_rank(i: usize) -> u32
     requires { ⌜ i ≤ 4096 ⌝ }
     ensures { λ r. ⌜ r ≡ stepRank i ⌝ }
 {

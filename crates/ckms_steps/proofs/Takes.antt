@@ -1,75 +1,30 @@
--- An accepted insert: one observation more and, when it is time, a compression; and that both leave a sound state. Assumes nothing.
+-- An accepted insert: the record made anew over the store after it, and that it is sound. Assumes nothing.
 use mathlib.Core.Path.{_≡_, refl, sym, ap, _∙_}
-use Prim.Native.Nat.{ℕ, suc, _+_, _-_, _≤_, _<_}
+use Prim.Native.Nat.{ℕ, suc, _+_, _<_}
 use native.Mathlib.Nat.{mod-lt, le-max-left}
 use native.Mathlib.Omega.{arith}
 use mathlib.Core.Bool.{true, _&&_, cond, and-eq-true-iff}
 use mathlib.Core.List.{List}
 use lib.Dec.{eqb, ltb}
-use lib.ListN.{length, take}
-use borrow.Author.Tests.{lt-ltb, ltb-true, eq-eqb, ne-eqb}
+use lib.ListN.{length}
+use borrow.Author.Tests.{lt-ltb, ltb-true}
 use Rattle.fraction.specs.declared.Fraction.{Fraction}
 use Rattle.fraction.specs.Products.{period}
 use Rattle.entries.specs.declared.Entry.{Entry}
 use Rattle.entries.specs.Entry.{zeroEntry}
 use Rattle.entries.specs.Lists.{layout}
-use Rattle.entries.proofs.Layouts.{layout-front, layout-again}
 use Rattle.ckms_store_steps.specs.declared.Store.{Store}
-use Rattle.ckms_store_steps.specs.Held.{Held, heldIn, tidy}
-use Rattle.ckms_store_steps.specs.Answers.{stateOf, putIn}
-use Rattle.ckms_store_steps.specs.Steps.{Left, PutPost, TidyPost}
-use Rattle.ckms_store_steps.specs.Steps as stepping
-use Rattle.ckms_store_steps.proofs.Works.{put-length}
+use Rattle.ckms_store_steps.specs.Answers.{stateOf}
+use Rattle.ckms_store_work.specs.Steps as stepping
 use Rattle.ckms_store_steps.specs.Sound as sounding
+use Rattle.ckms_store_work.specs.Changes.{tidy, putIn}
+use Rattle.ckms_store_grow.specs.Grow.{GrowPost}
 use Rattle.ckms_steps.specs.declared.CKMS.{CKMS}
 use Rattle.ckms_steps.specs.declared.Last.the-variants as last
 use Rattle.ckms_steps.specs.declared.Cma.{Cma}
 use Rattle.ckms_steps.specs.State.{block, samples, modulus, countOn, cmaAfter, lastSound, cmaSound, recordSound, sound}
 use Rattle.ckms_steps.specs.Steps as ckms
-use Rattle.ckms_steps.specs.Steps.{CmaPost, Ready, GrowPost, TakePost}
-
--- an insert leaves what a compression asks
-pub put-ready : (s p : Store) (list list₁ : List Entry) (lens lens₁ : List ℕ) (x : ℕ) → PutPost s list lens x p list₁ lens₁
-    → stepping.Ready s list lens → length list₁ ≡ length list → length lens₁ ≡ length lens → stepping.Ready p list₁ lens₁
-put-ready s p list list₁ lens lens₁ x a r e f = record { allowed = rw (e, f) (r .allowed); sound = a .kept }
-
--- a compression behind an insert
-module _ (s p r : Store) (list list₁ list₂ : List Entry) (lens lens₁ lens₂ : List ℕ) (x : ℕ) (fit : s .held ≤ length list) where
-  abbrev h : Held
-  h = putIn s list lens x
-
-  pub then-tidy : PutPost s list lens x p list₁ lens₁ → TidyPost p list₁ lens₁ r list₂ lens₂
-      → Left s (suc (s .n)) (tidy (s .error) (s .block) h) (suc (s .held)) (length (h .blocks)) list lens r list₂ lens₂
-  then-tidy a b = record {
-    state = b .state ∙ (λ i. stateOf (a .state i) (a .state i .n) (tidy (a .state i .error) (a .state i .block) (same i)));
-    entries =
-        b .entries ∙ (λ i. layout zeroEntry (tidy (a .state i .error) (a .state i .block) (same i) .entries) (a .state i .held) (a .entries i))
-        ∙ layout-again zeroEntry (h .entries) (suc (s .held)) list (omega (arith, long)) (tidy (s .error) (s .block) h .entries)
-        (length (h .entries)) long;
-    blocks =
-        b .blocks ∙ (λ i. layout 0 (tidy (a .state i .error) (a .state i .block) (same i) .blocks) (a .state i .blocks) (a .blocks i))
-        ∙ layout-again 0 (h .blocks) (length (h .blocks)) lens (omega arith) (tidy (s .error) (s .block) h .blocks) (length (h .blocks)) refl;
-    kept = b .kept;
-  }
-    where
-      long : length (h .entries) ≡ suc (s .held)
-      long = put-length s list lens x fit
-
-      es : take (p .held) list₁ ≡ h .entries
-      es = (λ i. take (a .state i .held) (a .entries i)) ∙ layout-front zeroEntry (h .entries) (suc (s .held)) list
-
-      ls : take (p .blocks) lens₁ ≡ h .blocks
-      ls = (λ i. take (a .state i .blocks) (a .blocks i)) ∙ layout-front 0 (h .blocks) (length (h .blocks)) lens
-
-      same : heldIn p list₁ lens₁ ≡ h
-      same = λ i. record { entries = es i; blocks = ls i }
-
-  -- by the counter
-  pub grown-tidy : (inserts : ℕ) → inserts ≡ 0 → PutPost s list lens x p list₁ lens₁ → TidyPost p list₁ lens₁ r list₂ lens₂ → GrowPost s inserts list lens x r list₂ lens₂
-  grown-tidy inserts z a b = rw (eq-eqb inserts 0 z) (then-tidy a b)
-
-pub grown-plain : (s p : Store) (list list₁ : List Entry) (lens lens₁ : List ℕ) (x inserts : ℕ) → (inserts ≡ 0 → ⊥) → PutPost s list lens x p list₁ lens₁ → GrowPost s inserts list lens x p list₁ lens₁
-grown-plain s p list list₁ lens lens₁ x inserts z a = rw (ne-eqb inserts 0 z) a
+use Rattle.ckms_steps.specs.Steps.{CmaPost, Ready, TakePost}
 
 -- the counter stays below its modulus
 count-below : (c : CKMS) → countOn (c .error) (c .inserts) < modulus (c .error)

@@ -9,8 +9,9 @@ use Rattle.fraction.specs.Products.{period}
 use Rattle.entries.specs.declared.Entry.{Entry}
 use Rattle.mean.specs.Mean.{meanFirst, meanNext, finite, inRange}
 use Rattle.ckms_store_steps.specs.declared.Store.{Store}
-use Rattle.ckms_store_steps.specs.Held.{Held, put, tidy}
+use Rattle.ckms_store_steps.specs.Held.{Held}
 use Rattle.ckms_store_steps.specs.Sound as store
+use Rattle.ckms_store_work.specs.Changes.{put, tidy}
 use Rattle.ckms_steps.specs.declared.CKMS.{CKMS}
 use Rattle.ckms_steps.specs.declared.Last.{Last}
 use Rattle.ckms_steps.specs.declared.Last.the-variants as last

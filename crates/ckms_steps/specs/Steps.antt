@@ -4,20 +4,17 @@ use mathlib.Core.Path.{_≡_}
 use Prim.Native.Nat.{ℕ, suc}
 use mathlib.Core.Bool.{true, cond, not}
 use mathlib.Core.List.{List}
-use lib.Dec.{eqb}
 use lib.ListN.{length}
 use Rattle.refusal.specs.declared.Refusal.{Refusal}
 use Rattle.refusal.specs.declared.Refusal.the-variants.{Slots, Damaged}
 use Rattle.entries.specs.declared.Entry.{Entry}
 use Rattle.entries.specs.Entry.{zeroEntry}
 use Rattle.entries.specs.Lists.{layout}
-use Rattle.ckms_store_steps.specs.declared.Store.{Store}
 use Rattle.ckms_store_steps.specs.declared.Checked.{Checked}
 use Rattle.ckms_store_steps.specs.declared.Checked.the-variants as checking
-use Rattle.ckms_store_steps.specs.Held.{Held, heldIn, tidy}
+use Rattle.ckms_store_steps.specs.Held.{Held, heldIn}
 use Rattle.ckms_store_steps.specs.Limits.{slotsOk}
-use Rattle.ckms_store_steps.specs.Answers.{putIn}
-use Rattle.ckms_store_steps.specs.Steps.{Left}
+use Rattle.ckms_store_work.specs.Changes.{putIn}
 use Rattle.ckms_steps.specs.declared.CKMS.{CKMS}
 use Rattle.ckms_steps.specs.declared.Last.the-variants as last
 use Rattle.ckms_steps.specs.declared.Cma.{Cma}
@@ -43,11 +40,6 @@ pub record CmaPost (c : Cma) (v n : ℕ) (r : Cma) : Type 0 where
 pub record Ready (c : CKMS) (list : List Entry) (lens : List ℕ) : Type 0 where
   pub allowed : slotsOk (length list) (length lens) ≡ true
   pub sound : sound c list lens ≡ true
-
--- the store within after an insert: compressed if the insert counter, `inserts` after it, is 0
-abbrev pub GrowPost : Store → ℕ → List Entry → List ℕ → ℕ → Store → List Entry → List ℕ → Type 0
-GrowPost s inserts list lens x after list′ lens′ =
-    Left s (suc (s .n)) (cond (eqb inserts 0) (tidy (s .error) (s .block) (putIn s list lens x)) (putIn s list lens x)) (suc (s .held)) (length (putIn s list lens x .blocks)) list lens after list′ lens′
 
 -- what is held after an accepted insert
 abbrev pub takenIn : CKMS → List Entry → List ℕ → ℕ → Held

@@ -11,21 +11,8 @@ ghost use Prim.Native.Nat.{_<_};
 ghost use lib.ListN.{length};
 ghost use Rattle.entries.specs.Entry.{entriesOf};
 ghost use Rattle.ckms_store_steps.specs.Limits.{observations};
-ghost use Rattle.ckms_store_steps.specs.Steps as store;
 ghost use Rattle.ckms_steps.specs.State.{samples};
-ghost use Rattle.ckms_steps.specs.Steps.{checked, Ready, GrowPost, TakePost};
-
-// The store after v went in: compressed if `inserts`, the counter after it, is 0.
-fn grow(samples: Store, inserts: u32, rows: &mut [[u32; 3]], lens: &mut [u32], v: u32) -> Store
-    requires { ⌜ store.Ready samples (entriesOf (now rows)) (now lens) × (samples .n < observations) × (samples .held < length (now rows)) ⌝ }
-    ensures { λ r. ⌜ GrowPost samples inserts (entriesOf (now (rows .entry))) (now (lens .entry)) v r (entriesOf (now (rows .exit))) (now (lens .exit)) ⌝ }
-{
-    let put = samples.put(rows, lens, v);
-    if inserts == 0 {
-        return put.tidy(rows, lens);
-    }
-    put
-}
+ghost use Rattle.ckms_steps.specs.Steps.{checked, Ready, TakePost};
 
 impl CKMS {
     // The store within.
@@ -66,7 +53,7 @@ impl CKMS {
         let mean = self.cma;
         let inserts = count_on(error, self.inserts);
         let cma = cma_after(mean, v, self.n + 1);
-        let samples = grow(self.samples(), inserts, rows, lens, v);
+        let samples = ckms_store_grow::grow(self.samples(), inserts, rows, lens, v);
         CKMS {
             error,
             n: samples.n,

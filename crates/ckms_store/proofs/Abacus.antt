@@ -5,7 +5,7 @@ use Rattle.ckms_theory.specs.Blocks.{blockOf, rankOf, grown}
 use Rattle.ckms_theory.specs.Join.{join, joined}
 use Rattle.ckms_theory.specs.Squash.{squash, stays, squashed, marks, kept}
 use Rattle.ckms_theory.specs.Walk.{walk, lookUp}
-use Rattle.ckms_store_steps.specs.Held.{newDelta, put, tidy}
+use Rattle.ckms_store_work.specs.Changes.{newDelta, put, tidy}
 use Rattle.ckms_store_steps.proofs.Abacus as steps
 use Rattle.ckms_store.specs.Readings.{putAll, putTidy, StoreReadings}
 

@@ -1,9 +1,10 @@
 -- An accepted call leaves a sound store, from any state that it accepts. Assumes nothing.
 use mathlib.Core.Path.{_≡_, sym}
 use Rattle.entries.proofs.Guards.{differ}
-use Rattle.ckms_store_steps.specs.Answers.{stateOf, tidyIn}
+use Rattle.ckms_store_steps.specs.Answers.{stateOf}
+use Rattle.ckms_store_work.specs.Changes.{tidyIn}
 use Rattle.ckms_store_steps.proofs.Sounds.{sound-rules, rules-sound}
-use Rattle.ckms_store_steps.proofs.Works.{put-sound, tidy-sound}
+use Rattle.ckms_store_work.proofs.Works.{put-sound, tidy-sound}
 use Rattle.ckms_store.specs.declared.Compressed.the-variants as compressing
 use Rattle.ckms_store.specs.Answers.{compressed}
 use Rattle.ckms_store.specs.Promises.{SoundExactly, InsertSound, CompressSound}

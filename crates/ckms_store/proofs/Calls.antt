@@ -20,19 +20,21 @@ use Rattle.ckms_theory.specs.declared.Ranked.{Ranked}
 use Rattle.ckms_theory.specs.Walk.{lookUp}
 use Rattle.ckms_store_steps.specs.declared.Store.{Store}
 use Rattle.ckms_store_steps.specs.declared.Checked.the-variants as checking
-use Rattle.ckms_store_steps.specs.Answers.{tested, checked, stateOf, putIn, tidyIn, scaleOf, limitOf}
+use Rattle.ckms_store_steps.specs.Answers.{tested, checked, stateOf}
 use Rattle.ckms_store_steps.specs.Limits.{observations, slotsOk, sizeOk}
 use Rattle.ckms_store_steps.specs.Sound.{sound}
-use Rattle.ckms_store_steps.specs.Steps.{Ready, Asking, PutPost, TidyPost}
 use Rattle.ckms_store_steps.specs.Held.{nothing}
 use Rattle.ckms_store_steps.proofs.Kept.{kept-sound}
 use Rattle.ckms_store_steps.proofs.Tested.{answerOf, by-check, check-passed}
-use Rattle.ckms_store_steps.proofs.Works.{rules, slots-are}
+use Rattle.ckms_store_work.proofs.Works.{rules, slots-are}
 use Rattle.ckms_store_steps.specs.declared.Opened.the-variants as opening
 use Rattle.ckms_store.specs.declared.Answer.the-variants as answering
 use Rattle.ckms_store.specs.declared.Inserted.the-variants as inserting
 use Rattle.ckms_store.specs.declared.Compressed.the-variants as compressing
 use Rattle.ckms_store_steps.specs.Opening.{fresh, opened, OpenPost}
+use Rattle.ckms_store_work.specs.Changes.{putIn, tidyIn}
+use Rattle.ckms_store_look.specs.Query.{scaleOf, limitOf, Asking}
+use Rattle.ckms_store_work.specs.Steps.{Ready, PutPost, TidyPost}
 use Rattle.ckms_store.specs.Answers.{inserted, compressed, queried}
 use Rattle.ckms_store.specs.Posts.{InsertPost, CompressPost}
 

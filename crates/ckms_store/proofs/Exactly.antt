@@ -19,18 +19,20 @@ use Rattle.ckms_theory.specs.declared.Ranked.{Ranked}
 use Rattle.ckms_theory.specs.Walk.{lookUp}
 use Rattle.ckms_store_steps.specs.declared.Store.{Store}
 use Rattle.ckms_store_steps.specs.declared.Checked.the-variants as checking
-use Rattle.ckms_store_steps.specs.Answers.{tested, checked, stateOf, putIn, tidyIn, scaleOf, limitOf}
+use Rattle.ckms_store_steps.specs.Answers.{tested, checked, stateOf}
 use Rattle.ckms_store_steps.specs.Limits.{observations, slotsOk, sizeOk}
 use Rattle.ckms_store_steps.specs.Sound.{sound}
-use Rattle.ckms_store_steps.specs.Steps.{Ready}
 use Rattle.ckms_store_steps.proofs.Tested.{same-refusals}
-use Rattle.ckms_store_steps.proofs.Works.{rules}
+use Rattle.ckms_store_work.proofs.Works.{rules}
 use Rattle.ckms_store.specs.declared.Inserted.the-variants as inserting
 use Rattle.ckms_store.specs.declared.Compressed.the-variants as compressing
 use Rattle.ckms_store.specs.declared.Length.the-variants as counting
 use Rattle.ckms_store.specs.declared.IsEmpty.the-variants as telling
 use Rattle.ckms_store.specs.declared.Answer.the-variants as answering
 use Rattle.ckms_store_steps.specs.Opening.{fresh, opened}
+use Rattle.ckms_store_work.specs.Changes.{putIn, tidyIn}
+use Rattle.ckms_store_look.specs.Query.{scaleOf, limitOf}
+use Rattle.ckms_store_work.specs.Steps.{Ready}
 use Rattle.ckms_store.specs.Answers.{inserted, compressed, lenOf, emptyOf, queried}
 use Rattle.ckms_store.specs.Refusals.{OpenExactly, CheckExactly, InsertExactly, QueryExactly}
 use Rattle.ckms_store.proofs.Calls.{own}

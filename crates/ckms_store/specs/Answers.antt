@@ -13,8 +13,10 @@ use Rattle.entries.specs.Entry.{zeroEntry}
 use Rattle.entries.specs.Lists.{layout}
 use Rattle.ckms_theory.specs.Walk.{lookUp}
 use Rattle.ckms_store_steps.specs.declared.Store.{Store}
-use Rattle.ckms_store_steps.specs.Answers.{tested, stateOf, putIn, tidyIn, scaleOf, limitOf}
+use Rattle.ckms_store_steps.specs.Answers.{tested, stateOf}
 use Rattle.ckms_store_steps.specs.Limits.{observations}
+use Rattle.ckms_store_work.specs.Changes.{putIn, tidyIn}
+use Rattle.ckms_store_look.specs.Query.{scaleOf, limitOf}
 use Rattle.ckms_store.specs.declared.Inserted.{Inserted}
 use Rattle.ckms_store.specs.declared.Inserted.the-variants as inserting
 use Rattle.ckms_store.specs.declared.Compressed.{Compressed}

@@ -8,9 +8,10 @@ use Rattle.entries.specs.declared.Entry.{Entry}
 use Rattle.entries.specs.Entry.{entry}
 use Rattle.ckms_theory.specs.Join.{joined}
 use Rattle.ckms_theory.specs.Walk.{ranked, lookUp}
-use Rattle.ckms_store_steps.specs.Answers.{scaleOf, limitOf}
-use Rattle.ckms_store_steps.specs.Held.{Held, nothing, put, tidy}
+use Rattle.ckms_store_steps.specs.Held.{Held, nothing}
 use Rattle.ckms_store_steps.specs.Readings.{over, DeltaReadings}
+use Rattle.ckms_store_work.specs.Changes.{put, tidy}
+use Rattle.ckms_store_look.specs.Query.{scaleOf, limitOf}
 
 -- these entries in blocks of these lengths
 abbrev pub holds : List Entry → List ℕ → Held

@@ -17,7 +17,6 @@ use Rattle.ckms_store_steps.specs.declared.Checked.the-variants as checking
 use Rattle.ckms_store_steps.specs.Answers.{checked}
 use Rattle.ckms_store_steps.specs.Limits.{observations, slotsOk, sizeOk}
 use Rattle.ckms_store_steps.specs.Sound.{sound}
-use Rattle.ckms_store_steps.specs.Steps.{Ready}
 use Rattle.ckms_store_steps.specs.declared.Opened.the-variants as opening
 use Rattle.ckms_store.specs.declared.Inserted.the-variants as inserting
 use Rattle.ckms_store.specs.declared.Compressed.the-variants as compressing
@@ -25,6 +24,7 @@ use Rattle.ckms_store.specs.declared.Length.the-variants as counting
 use Rattle.ckms_store.specs.declared.IsEmpty.the-variants as telling
 use Rattle.ckms_store.specs.declared.Answer.the-variants as answering
 use Rattle.ckms_store_steps.specs.Opening.{opened}
+use Rattle.ckms_store_work.specs.Steps.{Ready}
 use Rattle.ckms_store.specs.Answers.{inserted, compressed, lenOf, emptyOf, queried}
 
 pub record OpenExactly (error : Fraction) (block : ℕ) (list : List Entry) (lens : List ℕ) : Type 0 where

@@ -59,7 +59,7 @@ pub fn insert(store: Store, rows: &mut [[u32; 3]], lens: &mut [u32], v: u32) -> 
     if rows.len() <= place(store.held) {
         return Inserted::Refused(Refusal::Full);
     }
-    Inserted::Taken(store.put(rows, lens, v))
+    Inserted::Taken(ckms_store_work::put(store, rows, lens, v))
 }
 
 // Entries that the error allows are merged, and neighbouring blocks joined. Refused: SLOTS, DAMAGED.
@@ -70,7 +70,7 @@ pub fn compress(store: Store, rows: &mut [[u32; 3]], lens: &mut [u32]) -> Compre
     if let Checked::Refused(why) = checked {
         return Compressed::Refused(why);
     }
-    Compressed::Done(store.tidy(rows, lens))
+    Compressed::Done(ckms_store_work::tidy(store, rows, lens))
 }
 
 // How many entries are held. Refused: SLOTS, DAMAGED.
@@ -107,7 +107,7 @@ pub fn query(store: Store, rows: &[[u32; 3]], lens: &[u32], q: Fraction) -> Answ
         if store.n == 0 {
             return Answer::Refused(Refusal::Empty);
         }
-        return Answer::Given(store.look_up(rows, q));
+        return Answer::Given(ckms_store_look::look_up(store, rows, q));
     }
     Answer::Refused(Refusal::Phi)
 }

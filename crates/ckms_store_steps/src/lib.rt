@@ -1,25 +1,16 @@
-// The store's state, its limits and its opening, the tests of every call, and the work of each once its tests are passed.
+// The store's state, its limits and its opening, and the tests of every call.
 use ckms_rows::lists;
-use ckms_rows::walk;
-use ckms_store_rows::join;
-use ckms_store_rows::new_delta;
-use ckms_store_rows::seek;
-use ckms_store_rows::squash;
-use ckms_theory::Ranked;
 use ckms_theory::place;
 use fraction::Fraction;
-use fraction::wide;
 use refusal::Refusal;
 ghost use mathlib.Core.Path.{_≡_};
-ghost use Prim.Native.Nat.{_≤_, _<_};
-ghost use lib.ListN.{length, take};
+ghost use Prim.Native.Nat.{_≤_};
+ghost use lib.ListN.{length};
 ghost use Rattle.entries.specs.Entry.{entriesOf};
-ghost use Rattle.ckms_theory.specs.Walk.{lookUp};
-ghost use Rattle.ckms_store_steps.specs.Answers.{checked, scaleOf, limitOf};
+ghost use Rattle.ckms_store_steps.specs.Answers.{checked};
 ghost use Rattle.ckms_store_steps.specs.Limits.{slots, sizes, observations, deltas, denominator, slotsOk, sizeOk};
 ghost use Rattle.ckms_store_steps.specs.Opening.{OpenPost};
 ghost use Rattle.ckms_store_steps.specs.Sound.{wordsSound, sound};
-ghost use Rattle.ckms_store_steps.specs.Steps.{Ready, Asking, PutPost, TidyPost};
 
 // A store's own words: its error, the observations taken, the entries held, the block size and the blocks in use.
 pub struct Store {
@@ -182,60 +173,5 @@ impl Store {
             return Checked::Refused(Refusal::Damaged);
         }
         Checked::Refused(Refusal::Slots)
-    }
-
-    // One observation more: the work of `insert`, once its tests are passed.
-    pub fn put(self, rows: &mut [[u32; 3]], lens: &mut [u32], v: u32) -> Store
-        requires { ⌜ Ready self (entriesOf (now rows)) (now lens) × (self .n < observations) × (self .held < length (now rows)) ⌝ }
-        ensures { λ r. ⌜ PutPost self (entriesOf (now (rows .entry))) (now (lens .entry)) v r (entriesOf (now (rows .exit))) (now (lens .exit)) ⌝ }
-    {
-        let error = self.error;
-        let held = place(self.held);
-        let blocks = place(self.blocks);
-        let spot = seek(rows, lens, held, blocks, v);
-        let delta = new_delta(error, spot.place, held, spot.rank);
-        room::insert_at(rows, held, spot.place, [v, 1, delta]);
-        let grown = ckms_blocks::grow(lens, blocks, spot.block, self.block);
-        Store {
-            error,
-            n: self.n + 1,
-            held: self.held + 1,
-            block: self.block,
-            blocks: grown as u32,
-        }
-    }
-
-    // A compression: the work of `compress`, once its tests are passed. Fewer than 3 entries stay as they are.
-    pub fn tidy(self, rows: &mut [[u32; 3]], lens: &mut [u32]) -> Store
-        requires { ⌜ Ready self (entriesOf (now rows)) (now lens) ⌝ }
-        ensures { λ r. ⌜ TidyPost self (entriesOf (now (rows .entry))) (now (lens .entry)) r (entriesOf (now (rows .exit))) (now (lens .exit)) ⌝ }
-    {
-        let error = self.error;
-        let held = place(self.held);
-        let blocks = place(self.blocks);
-        if held < 3 {
-            return self;
-        }
-        let left = squash(rows, lens, held, blocks, error);
-        let joined = join(lens, blocks, self.block);
-        Store {
-            error,
-            n: self.n,
-            held: left as u32,
-            block: self.block,
-            blocks: joined as u32,
-        }
-    }
-
-    // What a query answers, once its tests are passed.
-    pub fn look_up(self, rows: &[[u32; 3]], q: Fraction) -> Ranked
-        requires { ⌜ Asking self (entriesOf (now rows)) q ⌝ }
-        ensures { λ r. ⌜ r ≡ lookUp (scaleOf q) (limitOf (self .error) q (self .n)) (take (self .held) (entriesOf (now (rows .entry)))) ⌝ }
-    {
-        let error = self.error;
-        let held = place(self.held);
-        let n = self.n;
-        let limit = 2 * (wide(q.num) * wide(n)) + wide(q.den) * invariant::inv_at(error, q, n);
-        walk::walk(&rows[..held], 2 * wide(q.den), limit)
     }
 }

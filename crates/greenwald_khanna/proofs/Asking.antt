@@ -22,7 +22,7 @@ use Rattle.greenwald_khanna_theory.proofs.Explaining.{quantile-answers, each-ex
 use Rattle.greenwald_khanna_steps.specs.declared.Stream.{Stream}
 use Rattle.greenwald_khanna_steps.specs.Sound.{stateOf}
 use Rattle.greenwald_khanna_steps.proofs.Sounds.{Facts, sound-facts}
-use Rattle.greenwald_khanna.specs.declared.Answer.the-variants.{Value}
+use Rattle.greenwald_khanna_told.specs.declared.Answer.the-variants.{Value}
 use Rattle.greenwald_khanna.specs.Answers.{valueOf, quantiled}
 use Rattle.greenwald_khanna.proofs.Cases.{value-passes}
 

@@ -20,7 +20,7 @@ use Rattle.greenwald_khanna_steps.specs.Limits.{observations, slotsOk}
 use Rattle.greenwald_khanna_steps.specs.Sound.{sound, stateOf}
 use Rattle.greenwald_khanna_steps.specs.Steps.{Accepts}
 use Rattle.greenwald_khanna.specs.declared.Inserted.the-variants.{Taken}
-use Rattle.greenwald_khanna.specs.declared.Answer.the-variants as asking
+use Rattle.greenwald_khanna_told.specs.declared.Answer.the-variants as asking
 use Rattle.greenwald_khanna.specs.Answers.{inserted, insertedList, valueOf, quantiled}
 use Rattle.greenwald_khanna_theory.specs.State.{quantile}
 

@@ -22,10 +22,10 @@ use Rattle.greenwald_khanna_steps.specs.Steps.{after, streamOf}
 use Rattle.greenwald_khanna_steps.specs.Limits.{observations, slotsOk}
 use Rattle.greenwald_khanna_steps.specs.Sound.{sound, stateOf}
 use Rattle.greenwald_khanna_steps.proofs.Sounds.{sound-facts}
-use Rattle.greenwald_khanna.specs.declared.Answer.the-variants.{Value, Refused}
+use Rattle.greenwald_khanna_told.specs.declared.Answer.the-variants.{Value, Refused}
 use Rattle.greenwald_khanna_steps.specs.Opening.{opened}
-use Rattle.greenwald_khanna.specs.Answers.{inserted, valueOf, quantiled, told}
-use Rattle.greenwald_khanna.specs.Refusals.{OpenExactly, InsertExactly, QuantileExactly, ToldExactly}
+use Rattle.greenwald_khanna.specs.Answers.{inserted, valueOf, quantiled}
+use Rattle.greenwald_khanna.specs.Refusals.{OpenExactly, InsertExactly, QuantileExactly}
 use Rattle.greenwald_khanna.proofs.Asking.{quantile-none, quantile-some}
 use Rattle.greenwald_khanna_steps.proofs.Fresh.{freshStream, open-passes}
 use Rattle.greenwald_khanna.proofs.Cases.{taken-passes, passes-taken, value-passes, passes-value}
@@ -132,15 +132,4 @@ quantile-exactly st list φ =
             let v = quantile-some (st .epsilon) (stateOf st list) φ (f .epsilon) (f .entries) (h .2) (h .3) in
             (v .0, passes-value st list φ (h .0) (h .1) (h .2) ∙ ap valueOf (v .1)),
       );
-    }
-
-pub told-exactly : (st : Stream) (list : List Entry) (x : ℕ) → ToldExactly st list x
-unfolding told
-told-exactly st list x =
-    let a : Bool = slotsOk (length list) in
-    let b : Bool = sound st list in
-    record {
-      slots = first-refused a b (λ e. differ (cc)) (λ _ _ e. differ (cc));
-      damaged = second-refused a b (λ e. differ (cc)) (λ _ _ e. differ (cc));
-      value = (λ e. let t = both-passed a b e (λ z. differ (cc)) (λ z. differ (cc)) in (t .0, t .1), λ h. rw (h .0, h .1));
     }

@@ -1,17 +1,16 @@
 -- What the public calls return meets their contracts: the answer and the list by their definitions, and with them demand 3 call by call.
 -- Assumes nothing.
-use mathlib.Core.Path.{_≡_, refl, sym, ap, _∙_}
+use mathlib.Core.Path.{_≡_, sym, ap, _∙_}
 use Prim.Native.Nat.{ℕ, suc, _≤_, _<_}
-use mathlib.Core.Bool.{Bool, true, false}
+use mathlib.Core.Bool.{true}
 use mathlib.Core.Option.{some}
 use mathlib.Core.List.{List}
 use borrow.Author.Tests.{le-leb, lt-leb}
 use lib.ListN.{length, replicate, length-map}
 use Rattle.refusal.specs.declared.Refusal.{Refusal}
 use Rattle.fraction.specs.declared.Fraction.{Fraction}
-use Rattle.fraction.specs.Allowed.{isEpsilon, isPhi, within}
-use Rattle.fraction.specs.Products.{floorMul, pOf}
-use Rattle.fraction.proofs.Tests.{within-true}
+use Rattle.fraction.specs.Allowed.{isPhi}
+use Rattle.fraction.specs.Products.{floorMul}
 use Rattle.greenwald_khanna_theory.specs.State.{answerAt, quantile}
 use Rattle.entries.specs.declared.Entry.{Entry}
 use Rattle.entries.specs.Entry.{zeroEntry, rowOf, entryOf, entriesOf}
@@ -23,13 +22,12 @@ use Rattle.greenwald_khanna_steps.specs.declared.Stream.{Stream}
 use Rattle.greenwald_khanna_steps.specs.Steps.{after, Accepts, Holds}
 use Rattle.greenwald_khanna_steps.specs.Limits.{slots, slotsOk}
 use Rattle.greenwald_khanna_steps.specs.Sound.{sound, stateOf}
-use Rattle.greenwald_khanna_steps.proofs.Sounds.{sound-facts}
 use Rattle.greenwald_khanna_steps.specs.declared.Opened.the-variants as opening
 use Rattle.greenwald_khanna.specs.declared.Inserted.the-variants as inserting
-use Rattle.greenwald_khanna.specs.declared.Answer.{Answer}
-use Rattle.greenwald_khanna.specs.declared.Answer.the-variants.{Value, Refused}
+use Rattle.greenwald_khanna_told.specs.declared.Answer.{Answer}
+use Rattle.greenwald_khanna_told.specs.declared.Answer.the-variants.{Value, Refused}
 use Rattle.greenwald_khanna_steps.specs.Opening.{opened, OpenPost}
-use Rattle.greenwald_khanna.specs.Answers.{inserted, insertedList, valueOf, quantiled, told, toldP}
+use Rattle.greenwald_khanna.specs.Answers.{inserted, insertedList, valueOf, quantiled}
 use Rattle.greenwald_khanna.specs.Posts.{InsertPost, QuantilePost}
 use Rattle.greenwald_khanna.proofs.Asking.{value-within}
 use Rattle.greenwald_khanna_steps.proofs.Fresh.{freshStream, opened-fresh}
@@ -63,12 +61,3 @@ module _ (st : Stream) (list : List Entry) (φ : Fraction) where
   asked-value a b c r v h k =
       let e : quantile (st .epsilon) (stateOf st list) φ ≡ some v = rw (← h) k in
       sym (passes-value st list φ a b c ∙ ap valueOf e)
-
--- telling p: of a sound stream, whose ε is allowed
-pub told-p : (st : Stream) (list : List Entry) (x : ℕ) → x ≡ within (isEpsilon (st .epsilon)) (pOf (st .epsilon) (st .n)) → told st list x ≡ toldP st list
-unfolding told
-told-p st list x h = go (sound st list) refl
-  where
-    go : (b : Bool) → sound st list ≡ b → told st list x ≡ toldP st list
-    go true e = ap (told st list) (h ∙ within-true (pOf (st .epsilon) (st .n)) (sound-facts st list e .epsilon))
-    go false e = rw e

@@ -1,4 +1,4 @@
--- What each call but opening answers, and the lent list that it leaves, on every input. The tests stand in the order of the refusals.
+-- What an insert and a quantile answer, and the lent list that it leaves, on every input. The tests stand in the order of the refusals.
 -- Assumes nothing: these are definitions.
 use Prim.Native.Nat.{ℕ, suc}
 use mathlib.Core.Bool.{cond, not}
@@ -9,7 +9,6 @@ use lib.ListN.{length}
 use Rattle.refusal.specs.declared.Refusal.the-variants.{Slots, Damaged, Count, Full, Phi, Empty}
 use Rattle.fraction.specs.declared.Fraction.{Fraction}
 use Rattle.fraction.specs.Allowed.{isPhi}
-use Rattle.fraction.specs.Products.{pOf}
 use Rattle.entries.specs.declared.Entry.{Entry}
 use Rattle.entries.specs.Entry.{zeroEntry}
 use Rattle.entries.specs.Lists.{layout}
@@ -18,10 +17,10 @@ use Rattle.greenwald_khanna_steps.specs.declared.Stream.{Stream}
 use Rattle.greenwald_khanna_steps.specs.Limits.{observations, slotsOk}
 use Rattle.greenwald_khanna_steps.specs.Sound.{sound, stateOf}
 use Rattle.greenwald_khanna_steps.specs.Steps.{after, streamOf}
+use Rattle.greenwald_khanna_told.specs.declared.Answer.{Answer}
+use Rattle.greenwald_khanna_told.specs.declared.Answer.the-variants.{Value, Refused}
 use Rattle.greenwald_khanna.specs.declared.Inserted.{Inserted}
 use Rattle.greenwald_khanna.specs.declared.Inserted.the-variants as inserting
-use Rattle.greenwald_khanna.specs.declared.Answer.{Answer}
-use Rattle.greenwald_khanna.specs.declared.Answer.the-variants.{Value, Refused}
 
 -- inserting: SLOTS, DAMAGED, COUNT, FULL; else the stream with the observation
 unfoldable pub inserted : Stream → List Entry → ℕ → Inserted
@@ -52,20 +51,3 @@ quantiled st list φ =
     (cond (not (sound st list)) (Refused Damaged)
     (cond (not (isPhi φ)) (Refused Phi)
     (valueOf (quantile (st .epsilon) (stateOf st list) φ))))
-
--- a number of a sound stream: SLOTS, DAMAGED
-unfoldable pub told : Stream → List Entry → ℕ → Answer
-told st list x =
-    cond (not (slotsOk (length list))) (Refused Slots)
-    (cond (not (sound st list)) (Refused Damaged)
-    (Value x))
-
--- p = ⌊2εn⌋, the observations, and the entries held
-abbrev pub toldP : Stream → List Entry → Answer
-toldP st list = told st list (pOf (st .epsilon) (st .n))
-
-abbrev pub toldN : Stream → List Entry → Answer
-toldN st list = told st list (st .n)
-
-abbrev pub toldS : Stream → List Entry → Answer
-toldS st list = told st list (st .held)

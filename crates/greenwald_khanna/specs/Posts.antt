@@ -14,8 +14,8 @@ use Rattle.greenwald_khanna_steps.specs.declared.Stream.{Stream}
 use Rattle.greenwald_khanna_steps.specs.Sound.{sound, stateOf}
 use Rattle.greenwald_khanna.specs.declared.Inserted.{Inserted}
 use Rattle.greenwald_khanna.specs.declared.Inserted.the-variants.{Taken}
-use Rattle.greenwald_khanna.specs.declared.Answer.{Answer}
-use Rattle.greenwald_khanna.specs.declared.Answer.the-variants.{Value}
+use Rattle.greenwald_khanna_told.specs.declared.Answer.{Answer}
+use Rattle.greenwald_khanna_told.specs.declared.Answer.the-variants.{Value}
 use Rattle.greenwald_khanna.specs.Answers.{inserted, insertedList, quantiled}
 
 -- an accepted insert leaves a sound stream, and a list that explained it explains it with the observation added

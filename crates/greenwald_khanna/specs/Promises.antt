@@ -15,11 +15,12 @@ use Rattle.greenwald_khanna_steps.specs.declared.Opened.{Opened}
 use Rattle.greenwald_khanna_steps.specs.declared.Opened.the-variants.{Open}
 use Rattle.greenwald_khanna.specs.declared.Inserted.{Inserted}
 use Rattle.greenwald_khanna.specs.declared.Inserted.the-variants.{Taken}
-use Rattle.greenwald_khanna.specs.declared.Answer.{Answer}
+use Rattle.greenwald_khanna_told.specs.declared.Answer.{Answer}
 use Rattle.greenwald_khanna_steps.specs.Opening.{opened, openedList, OpenPost}
 use Rattle.greenwald_khanna.specs.Answers.{inserted, insertedList}
 use Rattle.greenwald_khanna.specs.Posts.{InsertPost, QuantilePost}
-use Rattle.greenwald_khanna.specs.Refusals.{OpenExactly, InsertExactly, QuantileExactly, ToldExactly}
+use Rattle.greenwald_khanna_told.specs.Refusals.{ToldExactly}
+use Rattle.greenwald_khanna.specs.Refusals.{OpenExactly, InsertExactly, QuantileExactly}
 
 -- a fresh stream is sound
 unfoldable pub FreshSound : Type 0

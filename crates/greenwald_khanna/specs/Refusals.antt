@@ -16,9 +16,9 @@ use Rattle.greenwald_khanna_steps.specs.Sound.{sound}
 use Rattle.greenwald_khanna_steps.specs.Steps.{Accepts}
 use Rattle.greenwald_khanna_steps.specs.declared.Opened.the-variants as opening
 use Rattle.greenwald_khanna.specs.declared.Inserted.the-variants as inserting
-use Rattle.greenwald_khanna.specs.declared.Answer.the-variants.{Value, Refused}
+use Rattle.greenwald_khanna_told.specs.declared.Answer.the-variants.{Value, Refused}
 use Rattle.greenwald_khanna_steps.specs.Opening.{opened}
-use Rattle.greenwald_khanna.specs.Answers.{inserted, quantiled, told}
+use Rattle.greenwald_khanna.specs.Answers.{inserted, quantiled}
 
 pub record OpenExactly (ε : Fraction) (list : List Entry) : Type 0 where
   pub slots : opened ε list ≡ opening.Refused Slots ↔ slotsOk (length list) ≡ false
@@ -44,9 +44,3 @@ pub record QuantileExactly (st : Stream) (list : List Entry) (φ : Fraction) : T
       ↔ ((slotsOk (length list) ≡ true) × (sound st list ≡ true) × (isPhi φ ≡ true) × (st .n ≡ 0))
   pub value : ((v : ℕ) × (quantiled st list φ ≡ Value v))
       ↔ ((slotsOk (length list) ≡ true) × (sound st list ≡ true) × (isPhi φ ≡ true) × (0 < st .n))
-
--- the same of every call that tells a number
-pub record ToldExactly (st : Stream) (list : List Entry) (x : ℕ) : Type 0 where
-  pub slots : told st list x ≡ Refused Slots ↔ slotsOk (length list) ≡ false
-  pub damaged : told st list x ≡ Refused Damaged ↔ ((slotsOk (length list) ≡ true) × (sound st list ≡ false))
-  pub value : told st list x ≡ Value x ↔ ((slotsOk (length list) ≡ true) × (sound st list ≡ true))

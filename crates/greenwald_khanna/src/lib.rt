@@ -2,28 +2,23 @@
 // lent list's length, then whether state and list are sound.
 use fraction::Fraction;
 use refusal::Refusal;
-use told::tell;
-ghost use mathlib.Core.Path.{_≡_};
 ghost use Rattle.entries.specs.Entry.{entriesOf};
-ghost use Rattle.greenwald_khanna.specs.Answers.{toldP, toldN, toldS};
 ghost use Rattle.greenwald_khanna.specs.Posts.{InsertPost, QuantilePost};
 ghost use Rattle.greenwald_khanna.specs.Promises.{Promises};
-
-mod told;
 
 // The stream's type, with its limits and its opening, and what opening answers.
 pub use greenwald_khanna_steps::Opened;
 pub use greenwald_khanna_steps::Stream;
 
+// What a stream tells of itself, and what a question answers.
+pub use greenwald_khanna_told::Answer;
+pub use greenwald_khanna_told::n;
+pub use greenwald_khanna_told::p;
+pub use greenwald_khanna_told::s;
+
 // What an insert answers: the stream after it, or why not.
 pub enum Inserted {
     Taken(Stream),
-    Refused(Refusal),
-}
-
-// What a question answers.
-pub enum Answer {
-    Value(u32),
     Refused(Refusal),
 }
 
@@ -71,28 +66,6 @@ pub fn quantile(stream: Stream, rows: &[[u32; 3]], phi: Fraction) -> Answer
         return Answer::Refused(Refusal::Phi);
     }
     Answer::Refused(Refusal::Damaged)
-}
-
-// p = ⌊2εn⌋. Refused: SLOTS, DAMAGED.
-pub fn p(stream: Stream, rows: &[[u32; 3]]) -> Answer
-    ensures { λ r. ⌜ r ≡ toldP stream (entriesOf (now (rows .entry))) ⌝ }
-{
-    let epsilon = stream.epsilon;
-    tell(stream, rows, products::p(epsilon, stream.n))
-}
-
-// How many observations were accepted. Refused: SLOTS, DAMAGED.
-pub fn n(stream: Stream, rows: &[[u32; 3]]) -> Answer
-    ensures { λ r. ⌜ r ≡ toldN stream (entriesOf (now (rows .entry))) ⌝ }
-{
-    tell(stream, rows, stream.n)
-}
-
-// How many entries are held. Refused: SLOTS, DAMAGED.
-pub fn s(stream: Stream, rows: &[[u32; 3]]) -> Answer
-    ensures { λ r. ⌜ r ≡ toldS stream (entriesOf (now (rows .entry))) ⌝ }
-{
-    tell(stream, rows, stream.held)
 }
 
 // The theorems about the definitions are in proofs/. This contract states them, so that none can go missing.

@@ -19,11 +19,12 @@ use Rattle.greenwald_khanna_steps.specs.declared.Stream.{Stream}
 use Rattle.greenwald_khanna_steps.specs.Limits.{slots, slotsOk}
 use Rattle.greenwald_khanna.specs.declared.Inserted.{Inserted}
 use Rattle.greenwald_khanna.specs.declared.Inserted.the-variants as inserting
-use Rattle.greenwald_khanna.specs.declared.Answer.{Answer}
-use Rattle.greenwald_khanna.specs.declared.Answer.the-variants.{Refused}
+use Rattle.greenwald_khanna_told.specs.declared.Answer.{Answer}
+use Rattle.greenwald_khanna_told.specs.declared.Answer.the-variants.{Refused}
 use Rattle.greenwald_khanna.specs.Answers.{inserted, insertedList}
 use Rattle.greenwald_khanna.specs.Posts.{InsertPost}
-use Rattle.greenwald_khanna.proofs.Exactly.{insert-exactly, quantile-exactly, told-exactly}
+use Rattle.greenwald_khanna_told.proofs.Exactly.{told-exactly}
+use Rattle.greenwald_khanna.proofs.Exactly.{insert-exactly, quantile-exactly}
 use Rattle.greenwald_khanna.proofs.Kept.{inserted-kept}
 use Rattle.greenwald_khanna.proofs.Returns.{insert-refused}
 use Rattle.greenwald_khanna_part.proofs.Near.{insert-in-reach, ask-in-reach}

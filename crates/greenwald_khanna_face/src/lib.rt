@@ -10,7 +10,7 @@ use greenwald_khanna::Stream;
 use greenwald_khanna_part::Question;
 use refusal::Refusal;
 ghost use mathlib.Core.Path.{_≡_};
-ghost use Rattle.greenwald_khanna.specs.Answers.{toldP, toldN, toldS};
+ghost use Rattle.greenwald_khanna_told.specs.Answers.{toldP, toldN, toldS};
 ghost use Rattle.greenwald_khanna_steps.specs.Opening.{OpenPost};
 ghost use Rattle.greenwald_khanna.specs.Posts.{InsertPost, QuantilePost};
 ghost use Rattle.greenwald_khanna_part.specs.Questions.{answerTo};

@@ -25,7 +25,8 @@ use Rattle.greenwald_khanna_steps.specs.Limits.{slots, slotsOk}
 use Rattle.greenwald_khanna_steps.specs.Sound.{sound}
 use Rattle.greenwald_khanna.specs.declared.Inserted.{Inserted}
 use Rattle.greenwald_khanna.specs.declared.Inserted.the-variants.{Taken, Refused}
-use Rattle.greenwald_khanna.specs.Answers.{inserted, insertedList, leftBy, quantiled, told}
+use Rattle.greenwald_khanna_told.specs.Answers.{told}
+use Rattle.greenwald_khanna.specs.Answers.{inserted, insertedList, leftBy, quantiled}
 
 -- a list that is left, with what stands behind it
 left-with : (answer : Inserted) (new new′ old old′ behind : List Entry) → new ++ behind ≡ new′ → old ++ behind ≡ old′

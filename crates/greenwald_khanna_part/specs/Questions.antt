@@ -3,8 +3,9 @@
 use mathlib.Core.List.{List}
 use Rattle.entries.specs.declared.Entry.{Entry}
 use Rattle.greenwald_khanna_steps.specs.declared.Stream.{Stream}
-use Rattle.greenwald_khanna.specs.declared.Answer.{Answer}
-use Rattle.greenwald_khanna.specs.Answers.{quantiled, toldP, toldN, toldS}
+use Rattle.greenwald_khanna_told.specs.declared.Answer.{Answer}
+use Rattle.greenwald_khanna_told.specs.Answers.{toldP, toldN, toldS}
+use Rattle.greenwald_khanna.specs.Answers.{quantiled}
 use Rattle.greenwald_khanna_part.specs.declared.Question.{Question}
 use Rattle.greenwald_khanna_part.specs.declared.Question.the-variants.{Quantile, P, N, S}
 

@@ -1,4 +1,4 @@
--- What each call but opening answers, by cases, in the order of the refusal table.
+-- What insert, bins and bins_refusal answer, by cases, in the order of the refusal table.
 -- Assumes nothing: these are definitions.
 use Prim.Native.Nat.{ℕ}
 use mathlib.Core.Bool.{cond}
@@ -7,15 +7,13 @@ use lib.Dec.{ltb}
 use Rattle.refusal.specs.declared.Refusal.the-variants.{Count}
 use Rattle.refusal.specs.Number.{numberOf}
 use Rattle.histogram_rows.specs.declared.Bound.{Bound}
-use Rattle.histogram_rows.specs.Bins.{totalBelow, totalAbove, totalBetween, binsBetween}
+use Rattle.histogram_rows.specs.Bins.{binsBetween}
 use Rattle.histogram_steps.specs.declared.Histogram.{Histogram}
 use Rattle.histogram_steps.specs.declared.Standing.{Standing}
 use Rattle.histogram_steps.specs.declared.Standing.the-variants.{Fine, Refused}
 use Rattle.histogram_steps.specs.State.{observations, taken}
 use Rattle.histogram_steps.specs.Standing.{standing, left}
 use Rattle.histogram.specs.declared.Inserted.{Inserted}
-use Rattle.histogram.specs.declared.Counted.{Counted}
-use Rattle.histogram.specs.declared.Summed.{Summed}
 
 -- a refusal stands; else what comes next decides
 abbrev pub andThen : Standing → Standing → Standing
@@ -30,34 +28,6 @@ insertStanding h bs cs = andThen (standing h bs cs) (cond (ltb (h .count) observ
 abbrev pub insertAnswer : Standing → Histogram → ℕ → Inserted
 insertAnswer Fine h v = Inserted.Taken (taken h v)
 insertAnswer (Refused why) h v = Inserted.Refused why
-
--- a number, or the refusal
-abbrev pub counting : Standing → ℕ → Counted
-counting Fine n = Counted.Count n
-counting (Refused why) n = Counted.Refused why
-
--- `count`
-abbrev pub countAnswer : Histogram → List ℕ → List ℕ → Counted
-countAnswer h bs cs = counting (standing h bs cs) (h .count)
-
--- `total_below`, `total_above`, `total_between`
-abbrev pub belowAnswer : Histogram → List ℕ → List ℕ → Bound → Counted
-belowAnswer h bs cs u = counting (standing h bs cs) (totalBelow bs cs u)
-
-abbrev pub aboveAnswer : Histogram → List ℕ → List ℕ → Bound → Counted
-aboveAnswer h bs cs l = counting (standing h bs cs) (totalAbove bs cs l)
-
-abbrev pub betweenAnswer : Histogram → List ℕ → List ℕ → Bound → Bound → Counted
-betweenAnswer h bs cs l u = counting (standing h bs cs) (totalBetween bs cs l u)
-
--- the sum, or the refusal
-abbrev pub summing : Standing → Histogram → Summed
-summing Fine h = Summed.Of (h .sum)
-summing (Refused why) h = Summed.Refused why
-
--- `sum`
-abbrev pub sumAnswer : Histogram → List ℕ → List ℕ → Summed
-sumAnswer h bs cs = summing (standing h bs cs) h
 
 -- `bins`: an empty part where the call is refused
 abbrev pub binsAnswer : Histogram → List ℕ → List ℕ → Bound → Bound → List ℕ

@@ -16,9 +16,10 @@ use Rattle.histogram_steps.specs.State.{observations}
 use Rattle.histogram_steps.specs.Sound.{Sound, sound}
 use Rattle.histogram_steps.specs.Standing.{standing}
 use Rattle.histogram_steps.specs.declared.Opened.{Opened}
+use Rattle.histogram_told.specs.declared.Counted.{Counted}
+use Rattle.histogram_told.specs.Answers.{betweenAnswer}
 use Rattle.histogram.specs.declared.Inserted.{Inserted}
-use Rattle.histogram.specs.declared.Counted.{Counted}
-use Rattle.histogram.specs.Answers.{betweenAnswer, binsAnswer}
+use Rattle.histogram.specs.Answers.{binsAnswer}
 use Rattle.histogram_steps.specs.Opening.{OpenPost}
 use Rattle.histogram.specs.Contracts.{InsertPost}
 use Rattle.histogram.specs.Runs.{opened, filled, Words, Tells}

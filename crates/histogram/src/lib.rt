@@ -1,12 +1,11 @@
 // The histogram: how many observations fell into each of the bins that the caller's bounds cut, and their sum.
 // Bounds and counts are lent; nothing in a state is trusted, so every call tests what it is given.
 use fraction::wide;
-use histogram_rows::bounds;
 use histogram_rows::counts;
 use histogram_steps::Standing;
 use refusal::Refusal;
 ghost use mathlib.Core.Path.{_≡_};
-ghost use Rattle.histogram.specs.Answers.{countAnswer, sumAnswer, belowAnswer, aboveAnswer, betweenAnswer, binsAnswer, binsNumber};
+ghost use Rattle.histogram.specs.Answers.{binsAnswer, binsNumber};
 ghost use Rattle.histogram.specs.Contracts.{InsertPost};
 ghost use Rattle.histogram.specs.Promises.{Promises};
 
@@ -18,21 +17,18 @@ pub use histogram_steps::Histogram;
 pub use histogram_steps::Opened;
 pub use histogram_steps::Sum;
 
+// What a histogram tells.
+pub use histogram_told::Counted;
+pub use histogram_told::Summed;
+pub use histogram_told::count;
+pub use histogram_told::sum;
+pub use histogram_told::total_above;
+pub use histogram_told::total_below;
+pub use histogram_told::total_between;
+
 // What an insert answers.
 pub enum Inserted {
     Taken(Histogram),
-    Refused(Refusal),
-}
-
-// What `count` and the totals answer.
-pub enum Counted {
-    Count(u32),
-    Refused(Refusal),
-}
-
-// What `sum` answers.
-pub enum Summed {
-    Of(Sum),
     Refused(Refusal),
 }
 
@@ -49,71 +45,6 @@ pub fn insert(histogram: Histogram, bounds: &[u32], counts: &mut [u32], v: u32) 
     }
     counts::raise(bounds, counts, v);
     Inserted::Taken(histogram.taken(wide(v)))
-}
-
-// How many observations were taken.
-pub fn count(histogram: Histogram, bounds: &[u32], counts: &[u32]) -> Counted
-    ensures { λ r. ⌜ r ≡ countAnswer histogram (now (bounds .entry)) (now (counts .entry)) ⌝ }
-{
-    let standing = histogram.standing(bounds, counts);
-    match standing {
-        Standing::Fine => Counted::Count(histogram.count),
-        Standing::Refused(why) => Counted::Refused(why),
-    }
-}
-
-// Their sum.
-pub fn sum(histogram: Histogram, bounds: &[u32], counts: &[u32]) -> Summed
-    ensures { λ r. ⌜ r ≡ sumAnswer histogram (now (bounds .entry)) (now (counts .entry)) ⌝ }
-{
-    let standing = histogram.standing(bounds, counts);
-    let sum = histogram.sum;
-    match standing {
-        Standing::Fine => Summed::Of(sum),
-        Standing::Refused(why) => Summed::Refused(why),
-    }
-}
-
-// How many are in bins with bound ≤ upper.
-pub fn total_below(histogram: Histogram, bounds: &[u32], counts: &[u32], upper: Bound) -> Counted
-    ensures { λ r. ⌜ r ≡ belowAnswer histogram (now (bounds .entry)) (now (counts .entry)) upper ⌝ }
-{
-    let standing = histogram.standing(bounds, counts);
-    if let Standing::Refused(why) = standing {
-        return Counted::Refused(why);
-    }
-    let sum = counts::total_below(bounds, counts, upper) as u32;
-    Counted::Count(sum)
-}
-
-// How many are in bins with bound > lower.
-pub fn total_above(histogram: Histogram, bounds: &[u32], counts: &[u32], lower: Bound) -> Counted
-    ensures { λ r. ⌜ r ≡ aboveAnswer histogram (now (bounds .entry)) (now (counts .entry)) lower ⌝ }
-{
-    let standing = histogram.standing(bounds, counts);
-    if let Standing::Refused(why) = standing {
-        return Counted::Refused(why);
-    }
-    let sum = counts::total_above(bounds, counts, lower) as u32;
-    Counted::Count(sum)
-}
-
-// How many are in bins with lower < bound ≤ upper.
-pub fn total_between(
-    histogram: Histogram,
-    bounds: &[u32],
-    counts: &[u32],
-    lower: Bound,
-    upper: Bound,
-) -> Counted
-    ensures { λ r. ⌜ r ≡ betweenAnswer histogram (now (bounds .entry)) (now (counts .entry)) lower upper ⌝ }
-{
-    let standing = histogram.standing(bounds, counts);
-    if let Standing::Refused(why) = standing {
-        return Counted::Refused(why);
-    }
-    let sum = counts::total_between(bounds, counts, lower, upper) as u32;
-    Counted::Count(sum)
 }
 
 // The counts of those bins, as a part of the lent counts; an empty part for a refusal.

@@ -9,8 +9,8 @@ use Rattle.histogram_steps.specs.declared.Sum.{Sum}
 use Rattle.histogram_steps.specs.declared.Histogram.{Histogram}
 use Rattle.histogram_steps.specs.declared.Opened.{Opened}
 use Rattle.histogram.specs.declared.Inserted.{Inserted}
-use Rattle.histogram.specs.declared.Counted.{Counted}
-use Rattle.histogram.specs.declared.Summed.{Summed}
+use Rattle.histogram_told.specs.declared.Counted.{Counted}
+use Rattle.histogram_told.specs.declared.Summed.{Summed}
 use Rattle.words.specs.declared.Number.{Number}
 use Rattle.histogram_words.specs.declared.HistogramWords.{HistogramWords}
 use Rattle.histogram_words.specs.declared.HistogramAnswer.{HistogramAnswer}

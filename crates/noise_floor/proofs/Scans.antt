@@ -10,8 +10,8 @@ use Rattle.entries.proofs.Guards.{differ}
 use Rattle.greenwald_khanna_steps.specs.declared.Stream.{Stream}
 use Rattle.greenwald_khanna_steps.specs.declared.Opened.{Opened}
 use Rattle.greenwald_khanna_steps.specs.declared.Opened.the-variants as opening
-use Rattle.greenwald_khanna.specs.declared.Answer.{Answer}
-use Rattle.greenwald_khanna.specs.declared.Answer.the-variants.{Refused}
+use Rattle.greenwald_khanna_told.specs.declared.Answer.{Answer}
+use Rattle.greenwald_khanna_told.specs.declared.Answer.the-variants.{Refused}
 use Rattle.greenwald_khanna_steps.specs.Opening.{opened, openedList, OpenPost}
 use Rattle.greenwald_khanna.specs.Posts.{QuantilePost}
 use Rattle.noise_floor.specs.Demand3.{Given, given, run, asked, Demand3}

@@ -8,8 +8,8 @@ use Rattle.entries.specs.declared.Entry.{Entry}
 use Rattle.greenwald_khanna_steps.specs.declared.Stream.{Stream}
 use Rattle.greenwald_khanna_steps.specs.declared.Opened.{Opened}
 use Rattle.greenwald_khanna_steps.specs.declared.Opened.the-variants as opening
-use Rattle.greenwald_khanna.specs.declared.Answer.{Answer}
-use Rattle.greenwald_khanna.specs.declared.Answer.the-variants.{Refused}
+use Rattle.greenwald_khanna_told.specs.declared.Answer.{Answer}
+use Rattle.greenwald_khanna_told.specs.declared.Answer.the-variants.{Refused}
 use Rattle.greenwald_khanna_steps.specs.Opening.{opened, openedList}
 use Rattle.noise_floor.specs.Demand3.{given, run, accepted, Bounded, asked}
 

@@ -7,7 +7,7 @@ use Rattle.fraction.specs.declared.Fraction.{Fraction}
 use Rattle.entries.specs.declared.Entry.{Entry}
 use Rattle.entries.specs.Entry.{entriesOf}
 use Rattle.entries.specs.Promises.{Threes}
-use Rattle.greenwald_khanna.specs.declared.Answer.{Answer}
+use Rattle.greenwald_khanna_told.specs.declared.Answer.{Answer}
 use Rattle.noise_floor.specs.Demand3.{Demand3}
 use Rattle.noise_floor.specs.Floor.{FloorPost}
 use Rattle.noise_floor.specs.Readings.{StreamReadings}

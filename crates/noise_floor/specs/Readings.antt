@@ -10,7 +10,7 @@ use Rattle.entries.specs.declared.Entry.{Entry}
 use Rattle.entries.specs.Entry.{entry, zeroEntry}
 use Rattle.greenwald_khanna_steps.specs.declared.Opened.the-variants as opening
 use Rattle.greenwald_khanna.specs.declared.Inserted.the-variants as inserting
-use Rattle.greenwald_khanna.specs.declared.Answer.the-variants.{Value}
+use Rattle.greenwald_khanna_told.specs.declared.Answer.the-variants.{Value}
 use Rattle.greenwald_khanna_steps.specs.Opening.{opened, openedList}
 use Rattle.greenwald_khanna.specs.Answers.{inserted}
 use Rattle.noise_floor.specs.Demand3.{Given, given, run, asked}

@@ -7,8 +7,8 @@ use borrow.Author.Tests.{eq-eqb, ne-eqb}
 use Rattle.fraction.specs.declared.Fraction.{Fraction}
 use Rattle.refusal.specs.declared.Refusal.{Refusal}
 use Rattle.entries.specs.declared.Entry.{Entry}
-use Rattle.greenwald_khanna.specs.declared.Answer.{Answer}
-use Rattle.greenwald_khanna.specs.declared.Answer.the-variants as answering
+use Rattle.greenwald_khanna_told.specs.declared.Answer.{Answer}
+use Rattle.greenwald_khanna_told.specs.declared.Answer.the-variants as answering
 use Rattle.scan_file.specs.Words.{each}
 use Rattle.scan_put.specs.Put.{Put}
 use Rattle.scan_put.proofs.Texts.{put-both, put-none}

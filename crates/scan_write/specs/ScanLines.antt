@@ -8,8 +8,8 @@ use Rattle.refusal.specs.Number.{numberOf}
 use Rattle.fraction.specs.declared.Fraction.{Fraction}
 use Rattle.entries.specs.declared.Entry.{Entry}
 use Rattle.greenwald_khanna_steps.specs.declared.Stream.{Stream}
-use Rattle.greenwald_khanna.specs.declared.Answer.{Answer}
-use Rattle.greenwald_khanna.specs.declared.Answer.the-variants as answering
+use Rattle.greenwald_khanna_told.specs.declared.Answer.{Answer}
+use Rattle.greenwald_khanna_told.specs.declared.Answer.the-variants as answering
 use Rattle.greenwald_khanna.specs.Answers.{quantiled}
 use Rattle.scan_text.specs.declared.Line.{Line}
 use Rattle.scan_text.specs.declared.Line.the-variants.{Taken, Held, InsertRefused, Value, Refused}

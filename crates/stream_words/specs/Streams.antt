@@ -4,7 +4,7 @@ use Rattle.refusal.specs.Number.{numberOf}
 use Rattle.greenwald_khanna_steps.specs.declared.Stream.{Stream}
 use Rattle.greenwald_khanna_steps.specs.declared.Opened.{Opened}
 use Rattle.greenwald_khanna.specs.declared.Inserted.{Inserted}
-use Rattle.greenwald_khanna.specs.declared.Answer.{Answer}
+use Rattle.greenwald_khanna_told.specs.declared.Answer.{Answer}
 use Rattle.words.specs.declared.Number.{Number}
 use Rattle.stream_words.specs.declared.StreamWords.{StreamWords}
 use Rattle.stream_words.specs.declared.StreamAnswer.{StreamAnswer}

@@ -3,7 +3,8 @@
 use Rattle.greenwald_khanna_steps.proofs.Sounds.{sums-to-n}
 use Rattle.greenwald_khanna_steps.specs.Opening.{openedList}
 use Rattle.greenwald_khanna.specs.Promises.{FreshSound, AcceptedSound, SumsToN}
-use Rattle.greenwald_khanna.proofs.Exactly.{open-exactly, insert-exactly, quantile-exactly, told-exactly}
+use Rattle.greenwald_khanna_told.proofs.Exactly.{told-exactly}
+use Rattle.greenwald_khanna.proofs.Exactly.{open-exactly, insert-exactly, quantile-exactly}
 use Rattle.greenwald_khanna_steps.proofs.Fresh.{opened-fresh}
 use Rattle.greenwald_khanna.proofs.Kept.{inserted-kept}
 use Rattle.greenwald_khanna.proofs.Outcomes.{one-opening, one-insert, one-quantile}

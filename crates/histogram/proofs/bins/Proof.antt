@@ -3,7 +3,8 @@
 use mathlib.Core.Path.{sym, _∙_}
 use borrow.Author.Needs.{needs}
 use Rattle.histogram_steps.proofs.Standings.{ready}
-use Rattle.histogram.proofs.Answering.{leaves-so, binned, handed}
+use Rattle.histogram_told.proofs.Answering.{binned}
+use Rattle.histogram.proofs.Answering.{leaves-so, handed}
 use Rattle.histogram.proofs.bins.Statement.{statement}
 use Rattle.histogram.proofs.bins.Tie as tie
 

@@ -6,8 +6,8 @@ use borrow.Author.Needs.{needs}
 use Rattle.refusal.specs.declared.Refusal.the-variants.{Count}
 use Rattle.histogram_steps.specs.State.{taken}
 use Rattle.histogram_steps.proofs.Standings.{ready}
+use Rattle.histogram_told.proofs.Answering.{total-few, binned}
 use Rattle.histogram.proofs.Cases.{refused-first, refused-insert, late-insert, taken-insert}
-use Rattle.histogram.proofs.Answering.{total-few, binned}
 use Rattle.histogram.proofs.insert.Statement.{statement}
 use Rattle.histogram.proofs.insert.Tie as tie
 

@@ -1,12 +1,12 @@
 -- Machine-made by tools/port from the twin of `greenwald_khanna_face::ask`: never edited; tools/port/remake makes it anew.
 use Rattle.entries_face.proofs.Of
 use Prim.Native.Nat
-use Rattle.greenwald_khanna.proofs.Answer
-use Rattle.greenwald_khanna.proofs.Answer.Laws
 use Rattle.greenwald_khanna_part.proofs.Question
-use Rattle.greenwald_khanna_part.proofs.Question.Laws as Laws'
+use Rattle.greenwald_khanna_part.proofs.Question.Laws
 use Rattle.greenwald_khanna_steps.proofs.Stream
-use Rattle.greenwald_khanna_steps.proofs.Stream.Laws as Laws''
+use Rattle.greenwald_khanna_steps.proofs.Stream.Laws as Laws'
+use Rattle.greenwald_khanna_told.proofs.Answer
+use Rattle.greenwald_khanna_told.proofs.Answer.Laws as Laws''
 use Rattle.refusal.proofs.Refusal
 use Rattle.refusal.proofs.Refusal.Laws as Laws'3
 use borrow.Author.Called
@@ -58,37 +58,37 @@ abbrev pub ps : List.List (Kinds.PK 1)
 ps = List._∷_ (Value.pVal record {
   ty = Declared'.row Stream.the-type;
   one = Path'.refl;
-  val = Laws'5.val Stream.the-type Laws''.the-laws;
+  val = Laws'5.val Stream.the-type Laws'.the-laws;
   tells = Laws'5.tells Stream.the-type
-      Laws''.the-laws;
-  still = Laws'5.still Stream.the-type Laws''.the-copy Exit.yes;
+      Laws'.the-laws;
+  still = Laws'5.still Stream.the-type Laws'.the-copy Exit.yes;
   row = Rows.whole (Declared'.row Stream.the-type);
   rd = λ x. x;
   mk = λ x. x;
-} λ M 𝓤 H A W.
-    record {
-      copies = Laws'5.copy Stream.the-type Laws''.the-copy 𝓤 H A W;
-      lawful = Laws'5.lawful Stream.the-type Laws''.the-laws 𝓤 H A W;
-      makes = Laws'5.makes Stream.the-type
-          Laws''.the-plain 𝓤 H A;
-      in-mem = Local.mem-whole 𝓤 H A W (Declared'.row Stream.the-type);
-      of-mem = Local.whole-mem 𝓤 H A W (Declared'.row Stream.the-type);
-    }) (List._∷_
+} λ M 𝓤 H A W. record {
+  copies = Laws'5.copy Stream.the-type Laws'.the-copy 𝓤 H A W;
+  lawful = Laws'5.lawful Stream.the-type Laws'.the-laws 𝓤 H A W;
+  makes = Laws'5.makes Stream.the-type
+      Laws'.the-plain 𝓤 H A;
+  in-mem = Local.mem-whole 𝓤 H A W (Declared'.row Stream.the-type);
+  of-mem = Local.whole-mem 𝓤 H A W (Declared'.row Stream.the-type);
+}) (List._∷_
     (ShrSlice.pShrS Of.R 0 tt) (List._∷_ (Value.pVal record {
       ty = Declared.row Question.the-type;
       one = Path'.refl;
-      val = Laws'4.val Question.the-type Laws'.the-laws;
+      val = Laws'4.val Question.the-type Laws.the-laws;
       tells =
-          Laws'4.tells Question.the-type Laws'.the-laws;
-      still = Laws'4.still Question.the-type Laws'.the-copy Exit.yes;
+          Laws'4.tells Question.the-type Laws.the-laws;
+      still = Laws'4.still Question.the-type Laws.the-copy Exit.yes;
       row = Rows.whole (Declared.row Question.the-type);
       rd = λ x. x;
-      mk = λ x. x;
+      mk
+          = λ x. x;
     } λ M 𝓤 H A W. record {
-      copies = Laws'4.copy Question.the-type Laws'.the-copy 𝓤 H A W;
-      lawful = Laws'4.lawful Question.the-type Laws'.the-laws 𝓤 H A W tt;
+      copies = Laws'4.copy Question.the-type Laws.the-copy 𝓤 H A W;
+      lawful = Laws'4.lawful Question.the-type Laws.the-laws 𝓤 H A W tt;
       makes =
-          Laws'4.makes Question.the-type Laws'.the-plain 𝓤 H A;
+          Laws'4.makes Question.the-type Laws.the-plain 𝓤 H A;
       in-mem = Local.mem-whole 𝓤 H A W (Declared.row Question.the-type);
       of-mem = Local.whole-mem 𝓤 H A W (Declared.row
           Question.the-type);
@@ -98,17 +98,18 @@ abbrev pub r : Kinds.RK 1
 r = Value.rVal record {
   ty = Declared.row Answer.the-type;
   one = Path'.refl;
-  val = Laws'4.val Answer.the-type Laws.the-laws;
-  tells = Laws'4.tells Answer.the-type Laws.the-laws;
-  still = Laws'4.still Answer.the-type Laws.the-copy Exit.yes;
+  val = Laws'4.val Answer.the-type Laws''.the-laws;
+  tells = Laws'4.tells Answer.the-type Laws''.the-laws;
+  still = Laws'4.still Answer.the-type Laws''.the-copy Exit.yes;
   row = Rows.whole (Declared.row Answer.the-type);
   rd = λ x. x;
   mk = λ x. x;
 } λ M 𝓤 H A W. record {
   copies =
-      Laws'4.copy Answer.the-type Laws.the-copy 𝓤 H A W;
-  lawful = Laws'4.lawful Answer.the-type Laws.the-laws 𝓤 H A W tt;
-  makes = Laws'4.makes Answer.the-type Laws.the-plain 𝓤 H A;
+      Laws'4.copy Answer.the-type Laws''.the-copy 𝓤 H A W;
+  lawful = Laws'4.lawful Answer.the-type Laws''.the-laws 𝓤 H A W tt;
+  makes = Laws'4.makes Answer.the-type Laws''.the-plain 𝓤
+      H A;
   in-mem = Local.mem-whole 𝓤 H A W (Declared.row Answer.the-type);
   of-mem = Local.whole-mem 𝓤 H A W (Declared.row Answer.the-type);
 }
@@ -127,22 +128,21 @@ abbrev pub ps·0 : List.List (Kinds.PK 0)
 ps·0 = List._∷_ (Value.pVal record {
   ty = Declared'.row Stream.the-type;
   one = Path'.refl;
-  val = Laws'5.val Stream.the-type Laws''.the-laws;
+  val = Laws'5.val Stream.the-type Laws'.the-laws;
   tells = Laws'5.tells Stream.the-type
-      Laws''.the-laws;
-  still = Laws'5.still Stream.the-type Laws''.the-copy Exit.yes;
+      Laws'.the-laws;
+  still = Laws'5.still Stream.the-type Laws'.the-copy Exit.yes;
   row = Rows.whole (Declared'.row Stream.the-type);
   rd = λ x. x;
   mk = λ x. x;
-} λ M 𝓤 H A W.
-    record {
-      copies = Laws'5.copy Stream.the-type Laws''.the-copy 𝓤 H A W;
-      lawful = Laws'5.lawful Stream.the-type Laws''.the-laws 𝓤 H A W;
-      makes = Laws'5.makes Stream.the-type
-          Laws''.the-plain 𝓤 H A;
-      in-mem = Local.mem-whole 𝓤 H A W (Declared'.row Stream.the-type);
-      of-mem = Local.whole-mem 𝓤 H A W (Declared'.row Stream.the-type);
-    }) (List._∷_
+} λ M 𝓤 H A W. record {
+  copies = Laws'5.copy Stream.the-type Laws'.the-copy 𝓤 H A W;
+  lawful = Laws'5.lawful Stream.the-type Laws'.the-laws 𝓤 H A W;
+  makes = Laws'5.makes Stream.the-type
+      Laws'.the-plain 𝓤 H A;
+  in-mem = Local.mem-whole 𝓤 H A W (Declared'.row Stream.the-type);
+  of-mem = Local.whole-mem 𝓤 H A W (Declared'.row Stream.the-type);
+}) (List._∷_
     (Num.pNum Syntax.w64) List.[])
 
 abbrev pub r·0 : Kinds.RK 0
@@ -152,38 +152,37 @@ abbrev pub ps·1 : List.List (Kinds.PK 1)
 ps·1 = List._∷_ (Value.pVal record {
   ty = Declared'.row Stream.the-type;
   one = Path'.refl;
-  val = Laws'5.val Stream.the-type Laws''.the-laws;
+  val = Laws'5.val Stream.the-type Laws'.the-laws;
   tells = Laws'5.tells Stream.the-type
-      Laws''.the-laws;
-  still = Laws'5.still Stream.the-type Laws''.the-copy Exit.yes;
+      Laws'.the-laws;
+  still = Laws'5.still Stream.the-type Laws'.the-copy Exit.yes;
   row = Rows.whole (Declared'.row Stream.the-type);
   rd = λ x. x;
   mk = λ x. x;
-} λ M 𝓤 H A W.
-    record {
-      copies = Laws'5.copy Stream.the-type Laws''.the-copy 𝓤 H A W;
-      lawful = Laws'5.lawful Stream.the-type Laws''.the-laws 𝓤 H A W;
-      makes = Laws'5.makes Stream.the-type
-          Laws''.the-plain 𝓤 H A;
-      in-mem = Local.mem-whole 𝓤 H A W (Declared'.row Stream.the-type);
-      of-mem = Local.whole-mem 𝓤 H A W (Declared'.row Stream.the-type);
-    }) (List._∷_
+} λ M 𝓤 H A W. record {
+  copies = Laws'5.copy Stream.the-type Laws'.the-copy 𝓤 H A W;
+  lawful = Laws'5.lawful Stream.the-type Laws'.the-laws 𝓤 H A W;
+  makes = Laws'5.makes Stream.the-type
+      Laws'.the-plain 𝓤 H A;
+  in-mem = Local.mem-whole 𝓤 H A W (Declared'.row Stream.the-type);
+  of-mem = Local.whole-mem 𝓤 H A W (Declared'.row Stream.the-type);
+}) (List._∷_
     (ShrSlice.pShrS Of.R 0 tt) (List._∷_ (Num.pNum Syntax.w64) (List._∷_ (Value.pVal record {
       ty = Declared.row Question.the-type;
       one = Path'.refl;
       val = Laws'4.val
-          Question.the-type Laws'.the-laws;
-      tells = Laws'4.tells Question.the-type Laws'.the-laws;
-      still = Laws'4.still Question.the-type Laws'.the-copy Exit.yes;
+          Question.the-type Laws.the-laws;
+      tells = Laws'4.tells Question.the-type Laws.the-laws;
+      still = Laws'4.still Question.the-type Laws.the-copy Exit.yes;
       row = Rows.whole
           (Declared.row Question.the-type);
       rd = λ x. x;
       mk = λ x. x;
     } λ M 𝓤 H A W. record {
-      copies = Laws'4.copy Question.the-type Laws'.the-copy 𝓤 H A W;
+      copies = Laws'4.copy Question.the-type Laws.the-copy 𝓤 H A W;
       lawful = Laws'4.lawful
-          Question.the-type Laws'.the-laws 𝓤 H A W tt;
-      makes = Laws'4.makes Question.the-type Laws'.the-plain 𝓤 H A;
+          Question.the-type Laws.the-laws 𝓤 H A W tt;
+      makes = Laws'4.makes Question.the-type Laws.the-plain 𝓤 H A;
       in-mem = Local.mem-whole 𝓤 H A W (Declared.row Question.the-type);
       of-mem = Local.whole-mem 𝓤 H A W (Declared.row Question.the-type);
     }) List.[])))
@@ -192,17 +191,18 @@ abbrev pub r·1 : Kinds.RK 1
 r·1 = Value.rVal record {
   ty = Declared.row Answer.the-type;
   one = Path'.refl;
-  val = Laws'4.val Answer.the-type Laws.the-laws;
-  tells = Laws'4.tells Answer.the-type Laws.the-laws;
-  still = Laws'4.still Answer.the-type Laws.the-copy Exit.yes;
+  val = Laws'4.val Answer.the-type Laws''.the-laws;
+  tells = Laws'4.tells Answer.the-type
+      Laws''.the-laws;
+  still = Laws'4.still Answer.the-type Laws''.the-copy Exit.yes;
   row = Rows.whole (Declared.row Answer.the-type);
   rd = λ x. x;
   mk = λ x. x;
 } λ M 𝓤 H A W. record {
-  copies =
-      Laws'4.copy Answer.the-type Laws.the-copy 𝓤 H A W;
-  lawful = Laws'4.lawful Answer.the-type Laws.the-laws 𝓤 H A W tt;
-  makes = Laws'4.makes Answer.the-type Laws.the-plain 𝓤 H A;
+  copies = Laws'4.copy Answer.the-type Laws''.the-copy 𝓤 H A W;
+  lawful = Laws'4.lawful Answer.the-type Laws''.the-laws 𝓤 H A W tt;
+  makes = Laws'4.makes Answer.the-type
+      Laws''.the-plain 𝓤 H A;
   in-mem = Local.mem-whole 𝓤 H A W (Declared.row Answer.the-type);
   of-mem = Local.whole-mem 𝓤 H A W (Declared.row Answer.the-type);
 }
@@ -273,26 +273,26 @@ abbrev pub t0 : List.List Row.Entry
 t0 = List._∷_ (
   0,
   Rows.any-gone (Syntax.tyEnum (List._∷_ 103 (List._∷_ 114 (List._∷_ 101 (List._∷_ 101 (List._∷_ 110 (List._∷_ 119 (List._∷_ 97 (List._∷_ 108 (List._∷_ 100
-      (List._∷_ 95 (List._∷_ 107 (List._∷_ 104 (List._∷_ 97 (List._∷_ 110 (List._∷_ 110 (List._∷_ 97 (List._∷_ 58 (List._∷_ 58 (List._∷_ 65 (List._∷_ 110 (List._∷_ 115 (List._∷_ 119
-      (List._∷_ 101 (List._∷_ 114 List.[])))))))))))))))))))))))) (Syntax.ttcons (Syntax.tcons (Syntax.tyInt Syntax.w32) Syntax.tnil) (Syntax.ttcons (Syntax.tcons (Syntax.tyEnum
-      (List._∷_ 114 (List._∷_ 101 (List._∷_ 102 (List._∷_ 117 (List._∷_ 115 (List._∷_ 97 (List._∷_ 108 (List._∷_ 58 (List._∷_ 58 (List._∷_ 82 (List._∷_ 101 (List._∷_ 102 (List._∷_
-      117 (List._∷_ 115 (List._∷_ 97 (List._∷_ 108 List.[])))))))))))))))) (Syntax.ttcons Syntax.tnil (Syntax.ttcons Syntax.tnil (Syntax.ttcons Syntax.tnil (Syntax.ttcons Syntax.tnil
+      (List._∷_ 95 (List._∷_ 107 (List._∷_ 104 (List._∷_ 97 (List._∷_ 110 (List._∷_ 110 (List._∷_ 97 (List._∷_ 95 (List._∷_ 116 (List._∷_ 111 (List._∷_ 108 (List._∷_ 100 (List._∷_ 58
+      (List._∷_ 58 (List._∷_ 65 (List._∷_ 110 (List._∷_ 115 (List._∷_ 119 (List._∷_ 101 (List._∷_ 114 List.[]))))))))))))))))))))))))))))) (Syntax.ttcons (Syntax.tcons (Syntax.tyInt
+      Syntax.w32) Syntax.tnil) (Syntax.ttcons (Syntax.tcons (Syntax.tyEnum (List._∷_ 114 (List._∷_ 101 (List._∷_ 102 (List._∷_ 117 (List._∷_ 115 (List._∷_ 97 (List._∷_ 108 (List._∷_
+      58 (List._∷_ 58 (List._∷_ 82 (List._∷_ 101 (List._∷_ 102 (List._∷_ 117 (List._∷_ 115 (List._∷_ 97 (List._∷_ 108 List.[])))))))))))))))) (Syntax.ttcons Syntax.tnil
       (Syntax.ttcons Syntax.tnil (Syntax.ttcons Syntax.tnil (Syntax.ttcons Syntax.tnil (Syntax.ttcons Syntax.tnil (Syntax.ttcons Syntax.tnil (Syntax.ttcons Syntax.tnil (Syntax.ttcons
-      Syntax.tnil (Syntax.ttcons Syntax.tnil Syntax.ttnil))))))))))))) Syntax.tnil) Syntax.ttnil))),
-) (List._∷_ (1, Rows.whole (Declared'.row Stream.the-type)) (List._∷_ (
-  2,
-  Rows.sslice Of.R (Syntax.tyRef (Syntax.named 0) Syntax.imm Of.tyBy) 0,
-) (List._∷_ (3, Rows.whole (Declared.row Question.the-type)) (List._∷_ (
-  4,
-  Rows.any-gone (Syntax.tyInt
-      Syntax.w64),
-) (List._∷_ (5, Rows.any-gone (Syntax.tyInt Syntax.w64)) (List._∷_ (6, Rows.any-gone Syntax.tyBool) (List._∷_ (
+      Syntax.tnil (Syntax.ttcons Syntax.tnil (Syntax.ttcons Syntax.tnil (Syntax.ttcons Syntax.tnil (Syntax.ttcons Syntax.tnil Syntax.ttnil))))))))))))) Syntax.tnil) Syntax.ttnil))),
+) (List._∷_ (1, Rows.whole (Declared'.row Stream.the-type)) (List._∷_ (2, Rows.sslice Of.R (Syntax.tyRef (Syntax.named 0) Syntax.imm Of.tyBy) 0) (List._∷_ (
+  3,
+  Rows.whole
+      (Declared.row Question.the-type),
+) (List._∷_ (4, Rows.any-gone (Syntax.tyInt Syntax.w64)) (List._∷_ (5, Rows.any-gone (Syntax.tyInt Syntax.w64)) (List._∷_ (
+  6,
+  Rows.any-gone
+      Syntax.tyBool,
+) (List._∷_ (
   7,
-  Rows.any-gone (Syntax.tyEnum (List._∷_ 114
-      (List._∷_ 101 (List._∷_ 102 (List._∷_ 117 (List._∷_ 115 (List._∷_ 97 (List._∷_ 108 (List._∷_ 58 (List._∷_ 58 (List._∷_ 82 (List._∷_ 101 (List._∷_ 102 (List._∷_ 117 (List._∷_
-      115 (List._∷_ 97 (List._∷_ 108 List.[])))))))))))))))) (Syntax.ttcons Syntax.tnil (Syntax.ttcons Syntax.tnil (Syntax.ttcons Syntax.tnil (Syntax.ttcons Syntax.tnil
-      (Syntax.ttcons Syntax.tnil (Syntax.ttcons Syntax.tnil (Syntax.ttcons Syntax.tnil (Syntax.ttcons Syntax.tnil (Syntax.ttcons Syntax.tnil (Syntax.ttcons Syntax.tnil (Syntax.ttcons
-      Syntax.tnil (Syntax.ttcons Syntax.tnil Syntax.ttnil))))))))))))),
+  Rows.any-gone (Syntax.tyEnum (List._∷_ 114 (List._∷_ 101 (List._∷_ 102 (List._∷_ 117 (List._∷_ 115 (List._∷_ 97 (List._∷_ 108 (List._∷_ 58
+      (List._∷_ 58 (List._∷_ 82 (List._∷_ 101 (List._∷_ 102 (List._∷_ 117 (List._∷_ 115 (List._∷_ 97 (List._∷_ 108 List.[])))))))))))))))) (Syntax.ttcons Syntax.tnil (Syntax.ttcons
+      Syntax.tnil (Syntax.ttcons Syntax.tnil (Syntax.ttcons Syntax.tnil (Syntax.ttcons Syntax.tnil (Syntax.ttcons Syntax.tnil (Syntax.ttcons Syntax.tnil (Syntax.ttcons Syntax.tnil
+      (Syntax.ttcons Syntax.tnil (Syntax.ttcons Syntax.tnil (Syntax.ttcons Syntax.tnil (Syntax.ttcons Syntax.tnil Syntax.ttnil))))))))))))),
 ) List.[])))))))
 
 abbrev pub t1 : List.List Row.Entry
@@ -330,197 +330,200 @@ abbrev pub t2 : List.List Row.Entry
 t2 = List._∷_ (
   0,
   Rows.any-gone (Syntax.tyEnum (List._∷_ 103 (List._∷_ 114 (List._∷_ 101 (List._∷_ 101 (List._∷_ 110 (List._∷_ 119 (List._∷_ 97 (List._∷_ 108 (List._∷_ 100
-      (List._∷_ 95 (List._∷_ 107 (List._∷_ 104 (List._∷_ 97 (List._∷_ 110 (List._∷_ 110 (List._∷_ 97 (List._∷_ 58 (List._∷_ 58 (List._∷_ 65 (List._∷_ 110 (List._∷_ 115 (List._∷_ 119
-      (List._∷_ 101 (List._∷_ 114 List.[])))))))))))))))))))))))) (Syntax.ttcons (Syntax.tcons (Syntax.tyInt Syntax.w32) Syntax.tnil) (Syntax.ttcons (Syntax.tcons (Syntax.tyEnum
-      (List._∷_ 114 (List._∷_ 101 (List._∷_ 102 (List._∷_ 117 (List._∷_ 115 (List._∷_ 97 (List._∷_ 108 (List._∷_ 58 (List._∷_ 58 (List._∷_ 82 (List._∷_ 101 (List._∷_ 102 (List._∷_
-      117 (List._∷_ 115 (List._∷_ 97 (List._∷_ 108 List.[])))))))))))))))) (Syntax.ttcons Syntax.tnil (Syntax.ttcons Syntax.tnil (Syntax.ttcons Syntax.tnil (Syntax.ttcons Syntax.tnil
+      (List._∷_ 95 (List._∷_ 107 (List._∷_ 104 (List._∷_ 97 (List._∷_ 110 (List._∷_ 110 (List._∷_ 97 (List._∷_ 95 (List._∷_ 116 (List._∷_ 111 (List._∷_ 108 (List._∷_ 100 (List._∷_ 58
+      (List._∷_ 58 (List._∷_ 65 (List._∷_ 110 (List._∷_ 115 (List._∷_ 119 (List._∷_ 101 (List._∷_ 114 List.[]))))))))))))))))))))))))))))) (Syntax.ttcons (Syntax.tcons (Syntax.tyInt
+      Syntax.w32) Syntax.tnil) (Syntax.ttcons (Syntax.tcons (Syntax.tyEnum (List._∷_ 114 (List._∷_ 101 (List._∷_ 102 (List._∷_ 117 (List._∷_ 115 (List._∷_ 97 (List._∷_ 108 (List._∷_
+      58 (List._∷_ 58 (List._∷_ 82 (List._∷_ 101 (List._∷_ 102 (List._∷_ 117 (List._∷_ 115 (List._∷_ 97 (List._∷_ 108 List.[])))))))))))))))) (Syntax.ttcons Syntax.tnil
       (Syntax.ttcons Syntax.tnil (Syntax.ttcons Syntax.tnil (Syntax.ttcons Syntax.tnil (Syntax.ttcons Syntax.tnil (Syntax.ttcons Syntax.tnil (Syntax.ttcons Syntax.tnil (Syntax.ttcons
-      Syntax.tnil (Syntax.ttcons Syntax.tnil Syntax.ttnil))))))))))))) Syntax.tnil) Syntax.ttnil))),
-) (List._∷_ (1, Rows.whole (Declared'.row Stream.the-type)) (List._∷_ (
-  2,
-  Rows.sslice Of.R (Syntax.tyRef (Syntax.named 0) Syntax.imm Of.tyBy) 0,
-) (List._∷_ (3, Rows.whole (Declared.row Question.the-type)) (List._∷_ (
-  4,
-  Rows.sc-here (Row.sInt
-      Syntax.w64),
-) (List._∷_ (5, Rows.any-gone (Syntax.tyInt Syntax.w64)) (List._∷_ (6, Rows.any-gone Syntax.tyBool) (List._∷_ (
+      Syntax.tnil (Syntax.ttcons Syntax.tnil (Syntax.ttcons Syntax.tnil (Syntax.ttcons Syntax.tnil (Syntax.ttcons Syntax.tnil Syntax.ttnil))))))))))))) Syntax.tnil) Syntax.ttnil))),
+) (List._∷_ (1, Rows.whole (Declared'.row Stream.the-type)) (List._∷_ (2, Rows.sslice Of.R (Syntax.tyRef (Syntax.named 0) Syntax.imm Of.tyBy) 0) (List._∷_ (
+  3,
+  Rows.whole
+      (Declared.row Question.the-type),
+) (List._∷_ (4, Rows.sc-here (Row.sInt Syntax.w64)) (List._∷_ (5, Rows.any-gone (Syntax.tyInt Syntax.w64)) (List._∷_ (
+  6,
+  Rows.any-gone
+      Syntax.tyBool,
+) (List._∷_ (
   7,
-  Rows.any-gone (Syntax.tyEnum (List._∷_ 114
-      (List._∷_ 101 (List._∷_ 102 (List._∷_ 117 (List._∷_ 115 (List._∷_ 97 (List._∷_ 108 (List._∷_ 58 (List._∷_ 58 (List._∷_ 82 (List._∷_ 101 (List._∷_ 102 (List._∷_ 117 (List._∷_
-      115 (List._∷_ 97 (List._∷_ 108 List.[])))))))))))))))) (Syntax.ttcons Syntax.tnil (Syntax.ttcons Syntax.tnil (Syntax.ttcons Syntax.tnil (Syntax.ttcons Syntax.tnil
-      (Syntax.ttcons Syntax.tnil (Syntax.ttcons Syntax.tnil (Syntax.ttcons Syntax.tnil (Syntax.ttcons Syntax.tnil (Syntax.ttcons Syntax.tnil (Syntax.ttcons Syntax.tnil (Syntax.ttcons
-      Syntax.tnil (Syntax.ttcons Syntax.tnil Syntax.ttnil))))))))))))),
+  Rows.any-gone (Syntax.tyEnum (List._∷_ 114 (List._∷_ 101 (List._∷_ 102 (List._∷_ 117 (List._∷_ 115 (List._∷_ 97 (List._∷_ 108 (List._∷_ 58
+      (List._∷_ 58 (List._∷_ 82 (List._∷_ 101 (List._∷_ 102 (List._∷_ 117 (List._∷_ 115 (List._∷_ 97 (List._∷_ 108 List.[])))))))))))))))) (Syntax.ttcons Syntax.tnil (Syntax.ttcons
+      Syntax.tnil (Syntax.ttcons Syntax.tnil (Syntax.ttcons Syntax.tnil (Syntax.ttcons Syntax.tnil (Syntax.ttcons Syntax.tnil (Syntax.ttcons Syntax.tnil (Syntax.ttcons Syntax.tnil
+      (Syntax.ttcons Syntax.tnil (Syntax.ttcons Syntax.tnil (Syntax.ttcons Syntax.tnil (Syntax.ttcons Syntax.tnil Syntax.ttnil))))))))))))),
 ) List.[])))))))
 
 abbrev pub t3 : List.List Row.Entry
 t3 = List._∷_ (
   0,
   Rows.any-gone (Syntax.tyEnum (List._∷_ 103 (List._∷_ 114 (List._∷_ 101 (List._∷_ 101 (List._∷_ 110 (List._∷_ 119 (List._∷_ 97 (List._∷_ 108 (List._∷_ 100
-      (List._∷_ 95 (List._∷_ 107 (List._∷_ 104 (List._∷_ 97 (List._∷_ 110 (List._∷_ 110 (List._∷_ 97 (List._∷_ 58 (List._∷_ 58 (List._∷_ 65 (List._∷_ 110 (List._∷_ 115 (List._∷_ 119
-      (List._∷_ 101 (List._∷_ 114 List.[])))))))))))))))))))))))) (Syntax.ttcons (Syntax.tcons (Syntax.tyInt Syntax.w32) Syntax.tnil) (Syntax.ttcons (Syntax.tcons (Syntax.tyEnum
-      (List._∷_ 114 (List._∷_ 101 (List._∷_ 102 (List._∷_ 117 (List._∷_ 115 (List._∷_ 97 (List._∷_ 108 (List._∷_ 58 (List._∷_ 58 (List._∷_ 82 (List._∷_ 101 (List._∷_ 102 (List._∷_
-      117 (List._∷_ 115 (List._∷_ 97 (List._∷_ 108 List.[])))))))))))))))) (Syntax.ttcons Syntax.tnil (Syntax.ttcons Syntax.tnil (Syntax.ttcons Syntax.tnil (Syntax.ttcons Syntax.tnil
+      (List._∷_ 95 (List._∷_ 107 (List._∷_ 104 (List._∷_ 97 (List._∷_ 110 (List._∷_ 110 (List._∷_ 97 (List._∷_ 95 (List._∷_ 116 (List._∷_ 111 (List._∷_ 108 (List._∷_ 100 (List._∷_ 58
+      (List._∷_ 58 (List._∷_ 65 (List._∷_ 110 (List._∷_ 115 (List._∷_ 119 (List._∷_ 101 (List._∷_ 114 List.[]))))))))))))))))))))))))))))) (Syntax.ttcons (Syntax.tcons (Syntax.tyInt
+      Syntax.w32) Syntax.tnil) (Syntax.ttcons (Syntax.tcons (Syntax.tyEnum (List._∷_ 114 (List._∷_ 101 (List._∷_ 102 (List._∷_ 117 (List._∷_ 115 (List._∷_ 97 (List._∷_ 108 (List._∷_
+      58 (List._∷_ 58 (List._∷_ 82 (List._∷_ 101 (List._∷_ 102 (List._∷_ 117 (List._∷_ 115 (List._∷_ 97 (List._∷_ 108 List.[])))))))))))))))) (Syntax.ttcons Syntax.tnil
       (Syntax.ttcons Syntax.tnil (Syntax.ttcons Syntax.tnil (Syntax.ttcons Syntax.tnil (Syntax.ttcons Syntax.tnil (Syntax.ttcons Syntax.tnil (Syntax.ttcons Syntax.tnil (Syntax.ttcons
-      Syntax.tnil (Syntax.ttcons Syntax.tnil Syntax.ttnil))))))))))))) Syntax.tnil) Syntax.ttnil))),
-) (List._∷_ (1, Rows.whole (Declared'.row Stream.the-type)) (List._∷_ (
-  2,
-  Rows.sslice Of.R (Syntax.tyRef (Syntax.named 0) Syntax.imm Of.tyBy) 0,
-) (List._∷_ (3, Rows.whole (Declared.row Question.the-type)) (List._∷_ (
-  4,
-  Rows.sc-here (Row.sInt
-      Syntax.w64),
-) (List._∷_ (5, Rows.any-gone (Syntax.tyInt Syntax.w64)) (List._∷_ (6, Rows.sc-here Row.sBool) (List._∷_ (
+      Syntax.tnil (Syntax.ttcons Syntax.tnil (Syntax.ttcons Syntax.tnil (Syntax.ttcons Syntax.tnil (Syntax.ttcons Syntax.tnil Syntax.ttnil))))))))))))) Syntax.tnil) Syntax.ttnil))),
+) (List._∷_ (1, Rows.whole (Declared'.row Stream.the-type)) (List._∷_ (2, Rows.sslice Of.R (Syntax.tyRef (Syntax.named 0) Syntax.imm Of.tyBy) 0) (List._∷_ (
+  3,
+  Rows.whole
+      (Declared.row Question.the-type),
+) (List._∷_ (4, Rows.sc-here (Row.sInt Syntax.w64)) (List._∷_ (5, Rows.any-gone (Syntax.tyInt Syntax.w64)) (List._∷_ (
+  6,
+  Rows.sc-here
+      Row.sBool,
+) (List._∷_ (
   7,
-  Rows.any-gone (Syntax.tyEnum (List._∷_ 114 (List._∷_
-      101 (List._∷_ 102 (List._∷_ 117 (List._∷_ 115 (List._∷_ 97 (List._∷_ 108 (List._∷_ 58 (List._∷_ 58 (List._∷_ 82 (List._∷_ 101 (List._∷_ 102 (List._∷_ 117 (List._∷_ 115
-      (List._∷_ 97 (List._∷_ 108 List.[])))))))))))))))) (Syntax.ttcons Syntax.tnil (Syntax.ttcons Syntax.tnil (Syntax.ttcons Syntax.tnil (Syntax.ttcons Syntax.tnil (Syntax.ttcons
-      Syntax.tnil (Syntax.ttcons Syntax.tnil (Syntax.ttcons Syntax.tnil (Syntax.ttcons Syntax.tnil (Syntax.ttcons Syntax.tnil (Syntax.ttcons Syntax.tnil (Syntax.ttcons Syntax.tnil
-      (Syntax.ttcons Syntax.tnil Syntax.ttnil))))))))))))),
+  Rows.any-gone (Syntax.tyEnum (List._∷_ 114 (List._∷_ 101 (List._∷_ 102 (List._∷_ 117 (List._∷_ 115 (List._∷_ 97 (List._∷_ 108 (List._∷_ 58 (List._∷_
+      58 (List._∷_ 82 (List._∷_ 101 (List._∷_ 102 (List._∷_ 117 (List._∷_ 115 (List._∷_ 97 (List._∷_ 108 List.[])))))))))))))))) (Syntax.ttcons Syntax.tnil (Syntax.ttcons Syntax.tnil
+      (Syntax.ttcons Syntax.tnil (Syntax.ttcons Syntax.tnil (Syntax.ttcons Syntax.tnil (Syntax.ttcons Syntax.tnil (Syntax.ttcons Syntax.tnil (Syntax.ttcons Syntax.tnil (Syntax.ttcons
+      Syntax.tnil (Syntax.ttcons Syntax.tnil (Syntax.ttcons Syntax.tnil (Syntax.ttcons Syntax.tnil Syntax.ttnil))))))))))))),
 ) List.[])))))))
 
 abbrev pub t4 : List.List Row.Entry
 t4 = List._∷_ (
   0,
   Rows.any-gone (Syntax.tyEnum (List._∷_ 103 (List._∷_ 114 (List._∷_ 101 (List._∷_ 101 (List._∷_ 110 (List._∷_ 119 (List._∷_ 97 (List._∷_ 108 (List._∷_ 100
-      (List._∷_ 95 (List._∷_ 107 (List._∷_ 104 (List._∷_ 97 (List._∷_ 110 (List._∷_ 110 (List._∷_ 97 (List._∷_ 58 (List._∷_ 58 (List._∷_ 65 (List._∷_ 110 (List._∷_ 115 (List._∷_ 119
-      (List._∷_ 101 (List._∷_ 114 List.[])))))))))))))))))))))))) (Syntax.ttcons (Syntax.tcons (Syntax.tyInt Syntax.w32) Syntax.tnil) (Syntax.ttcons (Syntax.tcons (Syntax.tyEnum
-      (List._∷_ 114 (List._∷_ 101 (List._∷_ 102 (List._∷_ 117 (List._∷_ 115 (List._∷_ 97 (List._∷_ 108 (List._∷_ 58 (List._∷_ 58 (List._∷_ 82 (List._∷_ 101 (List._∷_ 102 (List._∷_
-      117 (List._∷_ 115 (List._∷_ 97 (List._∷_ 108 List.[])))))))))))))))) (Syntax.ttcons Syntax.tnil (Syntax.ttcons Syntax.tnil (Syntax.ttcons Syntax.tnil (Syntax.ttcons Syntax.tnil
+      (List._∷_ 95 (List._∷_ 107 (List._∷_ 104 (List._∷_ 97 (List._∷_ 110 (List._∷_ 110 (List._∷_ 97 (List._∷_ 95 (List._∷_ 116 (List._∷_ 111 (List._∷_ 108 (List._∷_ 100 (List._∷_ 58
+      (List._∷_ 58 (List._∷_ 65 (List._∷_ 110 (List._∷_ 115 (List._∷_ 119 (List._∷_ 101 (List._∷_ 114 List.[]))))))))))))))))))))))))))))) (Syntax.ttcons (Syntax.tcons (Syntax.tyInt
+      Syntax.w32) Syntax.tnil) (Syntax.ttcons (Syntax.tcons (Syntax.tyEnum (List._∷_ 114 (List._∷_ 101 (List._∷_ 102 (List._∷_ 117 (List._∷_ 115 (List._∷_ 97 (List._∷_ 108 (List._∷_
+      58 (List._∷_ 58 (List._∷_ 82 (List._∷_ 101 (List._∷_ 102 (List._∷_ 117 (List._∷_ 115 (List._∷_ 97 (List._∷_ 108 List.[])))))))))))))))) (Syntax.ttcons Syntax.tnil
       (Syntax.ttcons Syntax.tnil (Syntax.ttcons Syntax.tnil (Syntax.ttcons Syntax.tnil (Syntax.ttcons Syntax.tnil (Syntax.ttcons Syntax.tnil (Syntax.ttcons Syntax.tnil (Syntax.ttcons
-      Syntax.tnil (Syntax.ttcons Syntax.tnil Syntax.ttnil))))))))))))) Syntax.tnil) Syntax.ttnil))),
+      Syntax.tnil (Syntax.ttcons Syntax.tnil (Syntax.ttcons Syntax.tnil (Syntax.ttcons Syntax.tnil (Syntax.ttcons Syntax.tnil Syntax.ttnil))))))))))))) Syntax.tnil) Syntax.ttnil))),
 ) (List._∷_ (
   1,
-  Rows.any-gone (Syntax.tyStruct (List._∷_ 103 (List._∷_ 114
-      (List._∷_ 101 (List._∷_ 101 (List._∷_ 110 (List._∷_ 119 (List._∷_ 97 (List._∷_ 108 (List._∷_ 100 (List._∷_ 95 (List._∷_ 107 (List._∷_ 104 (List._∷_ 97 (List._∷_ 110 (List._∷_
-      110 (List._∷_ 97 (List._∷_ 95 (List._∷_ 115 (List._∷_ 116 (List._∷_ 101 (List._∷_ 112 (List._∷_ 115 (List._∷_ 58 (List._∷_ 58 (List._∷_ 83 (List._∷_ 116 (List._∷_ 114 (List._∷_
-      101 (List._∷_ 97 (List._∷_ 109 List.[])))))))))))))))))))))))))))))) (Syntax.tcons (Syntax.tyStruct (List._∷_ 102 (List._∷_ 114 (List._∷_ 97 (List._∷_ 99 (List._∷_ 116
-      (List._∷_ 105 (List._∷_ 111 (List._∷_ 110 (List._∷_ 58 (List._∷_ 58 (List._∷_ 70 (List._∷_ 114 (List._∷_ 97 (List._∷_ 99 (List._∷_ 116 (List._∷_ 105 (List._∷_ 111 (List._∷_ 110
-      List.[])))))))))))))))))) (Syntax.tcons (Syntax.tyInt Syntax.w32) (Syntax.tcons (Syntax.tyInt Syntax.w32) Syntax.tnil))) (Syntax.tcons (Syntax.tyInt Syntax.w32) (Syntax.tcons
-      (Syntax.tyInt Syntax.w32) Syntax.tnil)))),
-) (List._∷_ (2, Rows.sslice Of.R (Syntax.tyRef (Syntax.named 0) Syntax.imm Of.tyBy) 0) (List._∷_ (
-  3,
-  Rows.whole (Declared.row
-      Question.the-type),
-) (List._∷_ (4, Rows.sc-here (Row.sInt Syntax.w64)) (List._∷_ (5, Rows.any-gone (Syntax.tyInt Syntax.w64)) (List._∷_ (6, Rows.sc-here Row.sBool) (List._∷_ (
-  7,
-  Rows.any-gone (Syntax.tyEnum (List._∷_ 114 (List._∷_ 101 (List._∷_ 102 (List._∷_ 117 (List._∷_ 115 (List._∷_ 97 (List._∷_ 108 (List._∷_ 58 (List._∷_ 58 (List._∷_ 82
-      (List._∷_ 101 (List._∷_ 102 (List._∷_ 117 (List._∷_ 115 (List._∷_ 97 (List._∷_ 108 List.[])))))))))))))))) (Syntax.ttcons Syntax.tnil (Syntax.ttcons Syntax.tnil (Syntax.ttcons
-      Syntax.tnil (Syntax.ttcons Syntax.tnil (Syntax.ttcons Syntax.tnil (Syntax.ttcons Syntax.tnil (Syntax.ttcons Syntax.tnil (Syntax.ttcons Syntax.tnil (Syntax.ttcons Syntax.tnil
-      (Syntax.ttcons Syntax.tnil (Syntax.ttcons Syntax.tnil (Syntax.ttcons Syntax.tnil Syntax.ttnil))))))))))))),
-) List.[])))))))
+  Rows.any-gone (Syntax.tyStruct (List._∷_ 103 (List._∷_ 114 (List._∷_ 101 (List._∷_ 101 (List._∷_ 110 (List._∷_ 119 (List._∷_ 97 (List._∷_ 108 (List._∷_ 100
+      (List._∷_ 95 (List._∷_ 107 (List._∷_ 104 (List._∷_ 97 (List._∷_ 110 (List._∷_ 110 (List._∷_ 97 (List._∷_ 95 (List._∷_ 115 (List._∷_ 116 (List._∷_ 101 (List._∷_ 112 (List._∷_
+      115 (List._∷_ 58 (List._∷_ 58 (List._∷_ 83 (List._∷_ 116 (List._∷_ 114 (List._∷_ 101 (List._∷_ 97 (List._∷_ 109 List.[])))))))))))))))))))))))))))))) (Syntax.tcons
+      (Syntax.tyStruct (List._∷_ 102 (List._∷_ 114 (List._∷_ 97 (List._∷_ 99 (List._∷_ 116 (List._∷_ 105 (List._∷_ 111 (List._∷_ 110 (List._∷_ 58 (List._∷_ 58 (List._∷_ 70 (List._∷_
+      114 (List._∷_ 97 (List._∷_ 99 (List._∷_ 116 (List._∷_ 105 (List._∷_ 111 (List._∷_ 110 List.[])))))))))))))))))) (Syntax.tcons (Syntax.tyInt Syntax.w32) (Syntax.tcons
+      (Syntax.tyInt Syntax.w32) Syntax.tnil))) (Syntax.tcons (Syntax.tyInt Syntax.w32) (Syntax.tcons (Syntax.tyInt Syntax.w32) Syntax.tnil)))),
+) (List._∷_ (
+  2,
+  Rows.sslice Of.R
+      (Syntax.tyRef (Syntax.named 0) Syntax.imm Of.tyBy) 0,
+) (List._∷_ (3, Rows.whole (Declared.row Question.the-type)) (List._∷_ (4, Rows.sc-here (Row.sInt Syntax.w64))
+    (List._∷_ (5, Rows.any-gone (Syntax.tyInt Syntax.w64)) (List._∷_ (6, Rows.sc-here Row.sBool) (List._∷_ (
+      7,
+      Rows.any-gone (Syntax.tyEnum (List._∷_ 114 (List._∷_ 101 (List._∷_
+          102 (List._∷_ 117 (List._∷_ 115 (List._∷_ 97 (List._∷_ 108 (List._∷_ 58 (List._∷_ 58 (List._∷_ 82 (List._∷_ 101 (List._∷_ 102 (List._∷_ 117 (List._∷_ 115 (List._∷_ 97 (List._∷_
+          108 List.[])))))))))))))))) (Syntax.ttcons Syntax.tnil (Syntax.ttcons Syntax.tnil (Syntax.ttcons Syntax.tnil (Syntax.ttcons Syntax.tnil (Syntax.ttcons Syntax.tnil
+          (Syntax.ttcons Syntax.tnil (Syntax.ttcons Syntax.tnil (Syntax.ttcons Syntax.tnil (Syntax.ttcons Syntax.tnil (Syntax.ttcons Syntax.tnil (Syntax.ttcons Syntax.tnil (Syntax.ttcons
+          Syntax.tnil Syntax.ttnil))))))))))))),
+    ) List.[])))))))
 
 abbrev pub t5 : List.List Row.Entry
 t5 = List._∷_ (
   0,
   Rows.any-gone (Syntax.tyEnum (List._∷_ 103 (List._∷_ 114 (List._∷_ 101 (List._∷_ 101 (List._∷_ 110 (List._∷_ 119 (List._∷_ 97 (List._∷_ 108 (List._∷_ 100
-      (List._∷_ 95 (List._∷_ 107 (List._∷_ 104 (List._∷_ 97 (List._∷_ 110 (List._∷_ 110 (List._∷_ 97 (List._∷_ 58 (List._∷_ 58 (List._∷_ 65 (List._∷_ 110 (List._∷_ 115 (List._∷_ 119
-      (List._∷_ 101 (List._∷_ 114 List.[])))))))))))))))))))))))) (Syntax.ttcons (Syntax.tcons (Syntax.tyInt Syntax.w32) Syntax.tnil) (Syntax.ttcons (Syntax.tcons (Syntax.tyEnum
-      (List._∷_ 114 (List._∷_ 101 (List._∷_ 102 (List._∷_ 117 (List._∷_ 115 (List._∷_ 97 (List._∷_ 108 (List._∷_ 58 (List._∷_ 58 (List._∷_ 82 (List._∷_ 101 (List._∷_ 102 (List._∷_
-      117 (List._∷_ 115 (List._∷_ 97 (List._∷_ 108 List.[])))))))))))))))) (Syntax.ttcons Syntax.tnil (Syntax.ttcons Syntax.tnil (Syntax.ttcons Syntax.tnil (Syntax.ttcons Syntax.tnil
+      (List._∷_ 95 (List._∷_ 107 (List._∷_ 104 (List._∷_ 97 (List._∷_ 110 (List._∷_ 110 (List._∷_ 97 (List._∷_ 95 (List._∷_ 116 (List._∷_ 111 (List._∷_ 108 (List._∷_ 100 (List._∷_ 58
+      (List._∷_ 58 (List._∷_ 65 (List._∷_ 110 (List._∷_ 115 (List._∷_ 119 (List._∷_ 101 (List._∷_ 114 List.[]))))))))))))))))))))))))))))) (Syntax.ttcons (Syntax.tcons (Syntax.tyInt
+      Syntax.w32) Syntax.tnil) (Syntax.ttcons (Syntax.tcons (Syntax.tyEnum (List._∷_ 114 (List._∷_ 101 (List._∷_ 102 (List._∷_ 117 (List._∷_ 115 (List._∷_ 97 (List._∷_ 108 (List._∷_
+      58 (List._∷_ 58 (List._∷_ 82 (List._∷_ 101 (List._∷_ 102 (List._∷_ 117 (List._∷_ 115 (List._∷_ 97 (List._∷_ 108 List.[])))))))))))))))) (Syntax.ttcons Syntax.tnil
       (Syntax.ttcons Syntax.tnil (Syntax.ttcons Syntax.tnil (Syntax.ttcons Syntax.tnil (Syntax.ttcons Syntax.tnil (Syntax.ttcons Syntax.tnil (Syntax.ttcons Syntax.tnil (Syntax.ttcons
-      Syntax.tnil (Syntax.ttcons Syntax.tnil Syntax.ttnil))))))))))))) Syntax.tnil) Syntax.ttnil))),
+      Syntax.tnil (Syntax.ttcons Syntax.tnil (Syntax.ttcons Syntax.tnil (Syntax.ttcons Syntax.tnil (Syntax.ttcons Syntax.tnil Syntax.ttnil))))))))))))) Syntax.tnil) Syntax.ttnil))),
 ) (List._∷_ (
   1,
-  Rows.any-gone (Syntax.tyStruct (List._∷_ 103 (List._∷_ 114
-      (List._∷_ 101 (List._∷_ 101 (List._∷_ 110 (List._∷_ 119 (List._∷_ 97 (List._∷_ 108 (List._∷_ 100 (List._∷_ 95 (List._∷_ 107 (List._∷_ 104 (List._∷_ 97 (List._∷_ 110 (List._∷_
-      110 (List._∷_ 97 (List._∷_ 95 (List._∷_ 115 (List._∷_ 116 (List._∷_ 101 (List._∷_ 112 (List._∷_ 115 (List._∷_ 58 (List._∷_ 58 (List._∷_ 83 (List._∷_ 116 (List._∷_ 114 (List._∷_
-      101 (List._∷_ 97 (List._∷_ 109 List.[])))))))))))))))))))))))))))))) (Syntax.tcons (Syntax.tyStruct (List._∷_ 102 (List._∷_ 114 (List._∷_ 97 (List._∷_ 99 (List._∷_ 116
-      (List._∷_ 105 (List._∷_ 111 (List._∷_ 110 (List._∷_ 58 (List._∷_ 58 (List._∷_ 70 (List._∷_ 114 (List._∷_ 97 (List._∷_ 99 (List._∷_ 116 (List._∷_ 105 (List._∷_ 111 (List._∷_ 110
-      List.[])))))))))))))))))) (Syntax.tcons (Syntax.tyInt Syntax.w32) (Syntax.tcons (Syntax.tyInt Syntax.w32) Syntax.tnil))) (Syntax.tcons (Syntax.tyInt Syntax.w32) (Syntax.tcons
-      (Syntax.tyInt Syntax.w32) Syntax.tnil)))),
-) (List._∷_ (2, Rows.sslice Of.R (Syntax.tyRef (Syntax.named 0) Syntax.imm Of.tyBy) 0) (List._∷_ (
+  Rows.any-gone (Syntax.tyStruct (List._∷_ 103 (List._∷_ 114 (List._∷_ 101 (List._∷_ 101 (List._∷_ 110 (List._∷_ 119 (List._∷_ 97 (List._∷_ 108 (List._∷_ 100
+      (List._∷_ 95 (List._∷_ 107 (List._∷_ 104 (List._∷_ 97 (List._∷_ 110 (List._∷_ 110 (List._∷_ 97 (List._∷_ 95 (List._∷_ 115 (List._∷_ 116 (List._∷_ 101 (List._∷_ 112 (List._∷_
+      115 (List._∷_ 58 (List._∷_ 58 (List._∷_ 83 (List._∷_ 116 (List._∷_ 114 (List._∷_ 101 (List._∷_ 97 (List._∷_ 109 List.[])))))))))))))))))))))))))))))) (Syntax.tcons
+      (Syntax.tyStruct (List._∷_ 102 (List._∷_ 114 (List._∷_ 97 (List._∷_ 99 (List._∷_ 116 (List._∷_ 105 (List._∷_ 111 (List._∷_ 110 (List._∷_ 58 (List._∷_ 58 (List._∷_ 70 (List._∷_
+      114 (List._∷_ 97 (List._∷_ 99 (List._∷_ 116 (List._∷_ 105 (List._∷_ 111 (List._∷_ 110 List.[])))))))))))))))))) (Syntax.tcons (Syntax.tyInt Syntax.w32) (Syntax.tcons
+      (Syntax.tyInt Syntax.w32) Syntax.tnil))) (Syntax.tcons (Syntax.tyInt Syntax.w32) (Syntax.tcons (Syntax.tyInt Syntax.w32) Syntax.tnil)))),
+) (List._∷_ (
+  2,
+  Rows.sslice Of.R
+      (Syntax.tyRef (Syntax.named 0) Syntax.imm Of.tyBy) 0,
+) (List._∷_ (
   3,
-  Rows.any-gone (Syntax.tyEnum
-      (List._∷_ 103 (List._∷_ 114 (List._∷_ 101 (List._∷_ 101 (List._∷_ 110 (List._∷_ 119 (List._∷_ 97 (List._∷_ 108 (List._∷_ 100 (List._∷_ 95 (List._∷_ 107 (List._∷_ 104 (List._∷_
-      97 (List._∷_ 110 (List._∷_ 110 (List._∷_ 97 (List._∷_ 95 (List._∷_ 112 (List._∷_ 97 (List._∷_ 114 (List._∷_ 116 (List._∷_ 58 (List._∷_ 58 (List._∷_ 81 (List._∷_ 117 (List._∷_
-      101 (List._∷_ 115 (List._∷_ 116 (List._∷_ 105 (List._∷_ 111 (List._∷_ 110 List.[]))))))))))))))))))))))))))))))) (Syntax.ttcons (Syntax.tcons (Syntax.tyStruct (List._∷_ 102
-      (List._∷_ 114 (List._∷_ 97 (List._∷_ 99 (List._∷_ 116 (List._∷_ 105 (List._∷_ 111 (List._∷_ 110 (List._∷_ 58 (List._∷_ 58 (List._∷_ 70 (List._∷_ 114 (List._∷_ 97 (List._∷_ 99
-      (List._∷_ 116 (List._∷_ 105 (List._∷_ 111 (List._∷_ 110 List.[])))))))))))))))))) (Syntax.tcons (Syntax.tyInt Syntax.w32) (Syntax.tcons (Syntax.tyInt Syntax.w32) Syntax.tnil)))
-      Syntax.tnil) (Syntax.ttcons Syntax.tnil (Syntax.ttcons Syntax.tnil (Syntax.ttcons Syntax.tnil Syntax.ttnil))))),
-) (List._∷_ (4, Rows.sc-here (Row.sInt Syntax.w64)) (List._∷_ (
-  5,
-  Rows.any-gone (Syntax.tyInt Syntax.w64),
-) (List._∷_ (6, Rows.sc-here Row.sBool) (List._∷_ (
-  7,
-  Rows.any-gone (Syntax.tyEnum (List._∷_ 114 (List._∷_ 101 (List._∷_ 102
-      (List._∷_ 117 (List._∷_ 115 (List._∷_ 97 (List._∷_ 108 (List._∷_ 58 (List._∷_ 58 (List._∷_ 82 (List._∷_ 101 (List._∷_ 102 (List._∷_ 117 (List._∷_ 115 (List._∷_ 97 (List._∷_ 108
-      List.[])))))))))))))))) (Syntax.ttcons Syntax.tnil (Syntax.ttcons Syntax.tnil (Syntax.ttcons Syntax.tnil (Syntax.ttcons Syntax.tnil (Syntax.ttcons Syntax.tnil (Syntax.ttcons
-      Syntax.tnil (Syntax.ttcons Syntax.tnil (Syntax.ttcons Syntax.tnil (Syntax.ttcons Syntax.tnil (Syntax.ttcons Syntax.tnil (Syntax.ttcons Syntax.tnil (Syntax.ttcons Syntax.tnil
-      Syntax.ttnil))))))))))))),
-) List.[])))))))
+  Rows.any-gone (Syntax.tyEnum (List._∷_ 103 (List._∷_ 114 (List._∷_ 101 (List._∷_ 101 (List._∷_ 110
+      (List._∷_ 119 (List._∷_ 97 (List._∷_ 108 (List._∷_ 100 (List._∷_ 95 (List._∷_ 107 (List._∷_ 104 (List._∷_ 97 (List._∷_ 110 (List._∷_ 110 (List._∷_ 97 (List._∷_ 95 (List._∷_ 112
+      (List._∷_ 97 (List._∷_ 114 (List._∷_ 116 (List._∷_ 58 (List._∷_ 58 (List._∷_ 81 (List._∷_ 117 (List._∷_ 101 (List._∷_ 115 (List._∷_ 116 (List._∷_ 105 (List._∷_ 111 (List._∷_
+      110 List.[]))))))))))))))))))))))))))))))) (Syntax.ttcons (Syntax.tcons (Syntax.tyStruct (List._∷_ 102 (List._∷_ 114 (List._∷_ 97 (List._∷_ 99 (List._∷_ 116 (List._∷_ 105
+      (List._∷_ 111 (List._∷_ 110 (List._∷_ 58 (List._∷_ 58 (List._∷_ 70 (List._∷_ 114 (List._∷_ 97 (List._∷_ 99 (List._∷_ 116 (List._∷_ 105 (List._∷_ 111 (List._∷_ 110
+      List.[])))))))))))))))))) (Syntax.tcons (Syntax.tyInt Syntax.w32) (Syntax.tcons (Syntax.tyInt Syntax.w32) Syntax.tnil))) Syntax.tnil) (Syntax.ttcons Syntax.tnil (Syntax.ttcons
+      Syntax.tnil (Syntax.ttcons Syntax.tnil Syntax.ttnil))))),
+) (List._∷_ (4, Rows.sc-here (Row.sInt Syntax.w64)) (List._∷_ (5, Rows.any-gone (Syntax.tyInt Syntax.w64))
+    (List._∷_ (6, Rows.sc-here Row.sBool) (List._∷_ (
+      7,
+      Rows.any-gone (Syntax.tyEnum (List._∷_ 114 (List._∷_ 101 (List._∷_ 102 (List._∷_ 117 (List._∷_ 115 (List._∷_ 97 (List._∷_
+          108 (List._∷_ 58 (List._∷_ 58 (List._∷_ 82 (List._∷_ 101 (List._∷_ 102 (List._∷_ 117 (List._∷_ 115 (List._∷_ 97 (List._∷_ 108 List.[])))))))))))))))) (Syntax.ttcons Syntax.tnil
+          (Syntax.ttcons Syntax.tnil (Syntax.ttcons Syntax.tnil (Syntax.ttcons Syntax.tnil (Syntax.ttcons Syntax.tnil (Syntax.ttcons Syntax.tnil (Syntax.ttcons Syntax.tnil (Syntax.ttcons
+          Syntax.tnil (Syntax.ttcons Syntax.tnil (Syntax.ttcons Syntax.tnil (Syntax.ttcons Syntax.tnil (Syntax.ttcons Syntax.tnil Syntax.ttnil))))))))))))),
+    ) List.[])))))))
 
 abbrev pub t6 : List.List Row.Entry
 t6 = List._∷_ (
   0,
   Rows.any-gone (Syntax.tyEnum (List._∷_ 103 (List._∷_ 114 (List._∷_ 101 (List._∷_ 101 (List._∷_ 110 (List._∷_ 119 (List._∷_ 97 (List._∷_ 108 (List._∷_ 100
-      (List._∷_ 95 (List._∷_ 107 (List._∷_ 104 (List._∷_ 97 (List._∷_ 110 (List._∷_ 110 (List._∷_ 97 (List._∷_ 58 (List._∷_ 58 (List._∷_ 65 (List._∷_ 110 (List._∷_ 115 (List._∷_ 119
-      (List._∷_ 101 (List._∷_ 114 List.[])))))))))))))))))))))))) (Syntax.ttcons (Syntax.tcons (Syntax.tyInt Syntax.w32) Syntax.tnil) (Syntax.ttcons (Syntax.tcons (Syntax.tyEnum
-      (List._∷_ 114 (List._∷_ 101 (List._∷_ 102 (List._∷_ 117 (List._∷_ 115 (List._∷_ 97 (List._∷_ 108 (List._∷_ 58 (List._∷_ 58 (List._∷_ 82 (List._∷_ 101 (List._∷_ 102 (List._∷_
-      117 (List._∷_ 115 (List._∷_ 97 (List._∷_ 108 List.[])))))))))))))))) (Syntax.ttcons Syntax.tnil (Syntax.ttcons Syntax.tnil (Syntax.ttcons Syntax.tnil (Syntax.ttcons Syntax.tnil
+      (List._∷_ 95 (List._∷_ 107 (List._∷_ 104 (List._∷_ 97 (List._∷_ 110 (List._∷_ 110 (List._∷_ 97 (List._∷_ 95 (List._∷_ 116 (List._∷_ 111 (List._∷_ 108 (List._∷_ 100 (List._∷_ 58
+      (List._∷_ 58 (List._∷_ 65 (List._∷_ 110 (List._∷_ 115 (List._∷_ 119 (List._∷_ 101 (List._∷_ 114 List.[]))))))))))))))))))))))))))))) (Syntax.ttcons (Syntax.tcons (Syntax.tyInt
+      Syntax.w32) Syntax.tnil) (Syntax.ttcons (Syntax.tcons (Syntax.tyEnum (List._∷_ 114 (List._∷_ 101 (List._∷_ 102 (List._∷_ 117 (List._∷_ 115 (List._∷_ 97 (List._∷_ 108 (List._∷_
+      58 (List._∷_ 58 (List._∷_ 82 (List._∷_ 101 (List._∷_ 102 (List._∷_ 117 (List._∷_ 115 (List._∷_ 97 (List._∷_ 108 List.[])))))))))))))))) (Syntax.ttcons Syntax.tnil
       (Syntax.ttcons Syntax.tnil (Syntax.ttcons Syntax.tnil (Syntax.ttcons Syntax.tnil (Syntax.ttcons Syntax.tnil (Syntax.ttcons Syntax.tnil (Syntax.ttcons Syntax.tnil (Syntax.ttcons
-      Syntax.tnil (Syntax.ttcons Syntax.tnil Syntax.ttnil))))))))))))) Syntax.tnil) Syntax.ttnil))),
+      Syntax.tnil (Syntax.ttcons Syntax.tnil (Syntax.ttcons Syntax.tnil (Syntax.ttcons Syntax.tnil (Syntax.ttcons Syntax.tnil Syntax.ttnil))))))))))))) Syntax.tnil) Syntax.ttnil))),
 ) (List._∷_ (
   1,
-  Rows.any-gone (Syntax.tyStruct (List._∷_ 103 (List._∷_ 114
-      (List._∷_ 101 (List._∷_ 101 (List._∷_ 110 (List._∷_ 119 (List._∷_ 97 (List._∷_ 108 (List._∷_ 100 (List._∷_ 95 (List._∷_ 107 (List._∷_ 104 (List._∷_ 97 (List._∷_ 110 (List._∷_
-      110 (List._∷_ 97 (List._∷_ 95 (List._∷_ 115 (List._∷_ 116 (List._∷_ 101 (List._∷_ 112 (List._∷_ 115 (List._∷_ 58 (List._∷_ 58 (List._∷_ 83 (List._∷_ 116 (List._∷_ 114 (List._∷_
-      101 (List._∷_ 97 (List._∷_ 109 List.[])))))))))))))))))))))))))))))) (Syntax.tcons (Syntax.tyStruct (List._∷_ 102 (List._∷_ 114 (List._∷_ 97 (List._∷_ 99 (List._∷_ 116
-      (List._∷_ 105 (List._∷_ 111 (List._∷_ 110 (List._∷_ 58 (List._∷_ 58 (List._∷_ 70 (List._∷_ 114 (List._∷_ 97 (List._∷_ 99 (List._∷_ 116 (List._∷_ 105 (List._∷_ 111 (List._∷_ 110
-      List.[])))))))))))))))))) (Syntax.tcons (Syntax.tyInt Syntax.w32) (Syntax.tcons (Syntax.tyInt Syntax.w32) Syntax.tnil))) (Syntax.tcons (Syntax.tyInt Syntax.w32) (Syntax.tcons
-      (Syntax.tyInt Syntax.w32) Syntax.tnil)))),
-) (List._∷_ (2, Rows.sslice Of.R (Syntax.tyRef (Syntax.named 0) Syntax.imm Of.tyBy) 0) (List._∷_ (
+  Rows.any-gone (Syntax.tyStruct (List._∷_ 103 (List._∷_ 114 (List._∷_ 101 (List._∷_ 101 (List._∷_ 110 (List._∷_ 119 (List._∷_ 97 (List._∷_ 108 (List._∷_ 100
+      (List._∷_ 95 (List._∷_ 107 (List._∷_ 104 (List._∷_ 97 (List._∷_ 110 (List._∷_ 110 (List._∷_ 97 (List._∷_ 95 (List._∷_ 115 (List._∷_ 116 (List._∷_ 101 (List._∷_ 112 (List._∷_
+      115 (List._∷_ 58 (List._∷_ 58 (List._∷_ 83 (List._∷_ 116 (List._∷_ 114 (List._∷_ 101 (List._∷_ 97 (List._∷_ 109 List.[])))))))))))))))))))))))))))))) (Syntax.tcons
+      (Syntax.tyStruct (List._∷_ 102 (List._∷_ 114 (List._∷_ 97 (List._∷_ 99 (List._∷_ 116 (List._∷_ 105 (List._∷_ 111 (List._∷_ 110 (List._∷_ 58 (List._∷_ 58 (List._∷_ 70 (List._∷_
+      114 (List._∷_ 97 (List._∷_ 99 (List._∷_ 116 (List._∷_ 105 (List._∷_ 111 (List._∷_ 110 List.[])))))))))))))))))) (Syntax.tcons (Syntax.tyInt Syntax.w32) (Syntax.tcons
+      (Syntax.tyInt Syntax.w32) Syntax.tnil))) (Syntax.tcons (Syntax.tyInt Syntax.w32) (Syntax.tcons (Syntax.tyInt Syntax.w32) Syntax.tnil)))),
+) (List._∷_ (
+  2,
+  Rows.sslice Of.R
+      (Syntax.tyRef (Syntax.named 0) Syntax.imm Of.tyBy) 0,
+) (List._∷_ (
   3,
-  Rows.any-gone (Syntax.tyEnum
-      (List._∷_ 103 (List._∷_ 114 (List._∷_ 101 (List._∷_ 101 (List._∷_ 110 (List._∷_ 119 (List._∷_ 97 (List._∷_ 108 (List._∷_ 100 (List._∷_ 95 (List._∷_ 107 (List._∷_ 104 (List._∷_
-      97 (List._∷_ 110 (List._∷_ 110 (List._∷_ 97 (List._∷_ 95 (List._∷_ 112 (List._∷_ 97 (List._∷_ 114 (List._∷_ 116 (List._∷_ 58 (List._∷_ 58 (List._∷_ 81 (List._∷_ 117 (List._∷_
-      101 (List._∷_ 115 (List._∷_ 116 (List._∷_ 105 (List._∷_ 111 (List._∷_ 110 List.[]))))))))))))))))))))))))))))))) (Syntax.ttcons (Syntax.tcons (Syntax.tyStruct (List._∷_ 102
-      (List._∷_ 114 (List._∷_ 97 (List._∷_ 99 (List._∷_ 116 (List._∷_ 105 (List._∷_ 111 (List._∷_ 110 (List._∷_ 58 (List._∷_ 58 (List._∷_ 70 (List._∷_ 114 (List._∷_ 97 (List._∷_ 99
-      (List._∷_ 116 (List._∷_ 105 (List._∷_ 111 (List._∷_ 110 List.[])))))))))))))))))) (Syntax.tcons (Syntax.tyInt Syntax.w32) (Syntax.tcons (Syntax.tyInt Syntax.w32) Syntax.tnil)))
-      Syntax.tnil) (Syntax.ttcons Syntax.tnil (Syntax.ttcons Syntax.tnil (Syntax.ttcons Syntax.tnil Syntax.ttnil))))),
-) (List._∷_ (4, Rows.sc-here (Row.sInt Syntax.w64)) (List._∷_ (
-  5,
-  Rows.any-gone (Syntax.tyInt Syntax.w64),
-) (List._∷_ (6, Rows.any-gone Syntax.tyBool) (List._∷_ (
-  7,
-  Rows.any-gone (Syntax.tyEnum (List._∷_ 114 (List._∷_ 101 (List._∷_ 102
-      (List._∷_ 117 (List._∷_ 115 (List._∷_ 97 (List._∷_ 108 (List._∷_ 58 (List._∷_ 58 (List._∷_ 82 (List._∷_ 101 (List._∷_ 102 (List._∷_ 117 (List._∷_ 115 (List._∷_ 97 (List._∷_ 108
-      List.[])))))))))))))))) (Syntax.ttcons Syntax.tnil (Syntax.ttcons Syntax.tnil (Syntax.ttcons Syntax.tnil (Syntax.ttcons Syntax.tnil (Syntax.ttcons Syntax.tnil (Syntax.ttcons
-      Syntax.tnil (Syntax.ttcons Syntax.tnil (Syntax.ttcons Syntax.tnil (Syntax.ttcons Syntax.tnil (Syntax.ttcons Syntax.tnil (Syntax.ttcons Syntax.tnil (Syntax.ttcons Syntax.tnil
-      Syntax.ttnil))))))))))))),
-) List.[])))))))
+  Rows.any-gone (Syntax.tyEnum (List._∷_ 103 (List._∷_ 114 (List._∷_ 101 (List._∷_ 101 (List._∷_ 110
+      (List._∷_ 119 (List._∷_ 97 (List._∷_ 108 (List._∷_ 100 (List._∷_ 95 (List._∷_ 107 (List._∷_ 104 (List._∷_ 97 (List._∷_ 110 (List._∷_ 110 (List._∷_ 97 (List._∷_ 95 (List._∷_ 112
+      (List._∷_ 97 (List._∷_ 114 (List._∷_ 116 (List._∷_ 58 (List._∷_ 58 (List._∷_ 81 (List._∷_ 117 (List._∷_ 101 (List._∷_ 115 (List._∷_ 116 (List._∷_ 105 (List._∷_ 111 (List._∷_
+      110 List.[]))))))))))))))))))))))))))))))) (Syntax.ttcons (Syntax.tcons (Syntax.tyStruct (List._∷_ 102 (List._∷_ 114 (List._∷_ 97 (List._∷_ 99 (List._∷_ 116 (List._∷_ 105
+      (List._∷_ 111 (List._∷_ 110 (List._∷_ 58 (List._∷_ 58 (List._∷_ 70 (List._∷_ 114 (List._∷_ 97 (List._∷_ 99 (List._∷_ 116 (List._∷_ 105 (List._∷_ 111 (List._∷_ 110
+      List.[])))))))))))))))))) (Syntax.tcons (Syntax.tyInt Syntax.w32) (Syntax.tcons (Syntax.tyInt Syntax.w32) Syntax.tnil))) Syntax.tnil) (Syntax.ttcons Syntax.tnil (Syntax.ttcons
+      Syntax.tnil (Syntax.ttcons Syntax.tnil Syntax.ttnil))))),
+) (List._∷_ (4, Rows.sc-here (Row.sInt Syntax.w64)) (List._∷_ (5, Rows.any-gone (Syntax.tyInt Syntax.w64))
+    (List._∷_ (6, Rows.any-gone Syntax.tyBool) (List._∷_ (
+      7,
+      Rows.any-gone (Syntax.tyEnum (List._∷_ 114 (List._∷_ 101 (List._∷_ 102 (List._∷_ 117 (List._∷_ 115 (List._∷_ 97
+          (List._∷_ 108 (List._∷_ 58 (List._∷_ 58 (List._∷_ 82 (List._∷_ 101 (List._∷_ 102 (List._∷_ 117 (List._∷_ 115 (List._∷_ 97 (List._∷_ 108 List.[])))))))))))))))) (Syntax.ttcons
+          Syntax.tnil (Syntax.ttcons Syntax.tnil (Syntax.ttcons Syntax.tnil (Syntax.ttcons Syntax.tnil (Syntax.ttcons Syntax.tnil (Syntax.ttcons Syntax.tnil (Syntax.ttcons Syntax.tnil
+          (Syntax.ttcons Syntax.tnil (Syntax.ttcons Syntax.tnil (Syntax.ttcons Syntax.tnil (Syntax.ttcons Syntax.tnil (Syntax.ttcons Syntax.tnil Syntax.ttnil))))))))))))),
+    )
+    List.[])))))))
 
 abbrev pub t7 : List.List Row.Entry
 t7 = List._∷_ (
   0,
   Rows.any-gone (Syntax.tyEnum (List._∷_ 103 (List._∷_ 114 (List._∷_ 101 (List._∷_ 101 (List._∷_ 110 (List._∷_ 119 (List._∷_ 97 (List._∷_ 108 (List._∷_ 100
-      (List._∷_ 95 (List._∷_ 107 (List._∷_ 104 (List._∷_ 97 (List._∷_ 110 (List._∷_ 110 (List._∷_ 97 (List._∷_ 58 (List._∷_ 58 (List._∷_ 65 (List._∷_ 110 (List._∷_ 115 (List._∷_ 119
-      (List._∷_ 101 (List._∷_ 114 List.[])))))))))))))))))))))))) (Syntax.ttcons (Syntax.tcons (Syntax.tyInt Syntax.w32) Syntax.tnil) (Syntax.ttcons (Syntax.tcons (Syntax.tyEnum
-      (List._∷_ 114 (List._∷_ 101 (List._∷_ 102 (List._∷_ 117 (List._∷_ 115 (List._∷_ 97 (List._∷_ 108 (List._∷_ 58 (List._∷_ 58 (List._∷_ 82 (List._∷_ 101 (List._∷_ 102 (List._∷_
-      117 (List._∷_ 115 (List._∷_ 97 (List._∷_ 108 List.[])))))))))))))))) (Syntax.ttcons Syntax.tnil (Syntax.ttcons Syntax.tnil (Syntax.ttcons Syntax.tnil (Syntax.ttcons Syntax.tnil
+      (List._∷_ 95 (List._∷_ 107 (List._∷_ 104 (List._∷_ 97 (List._∷_ 110 (List._∷_ 110 (List._∷_ 97 (List._∷_ 95 (List._∷_ 116 (List._∷_ 111 (List._∷_ 108 (List._∷_ 100 (List._∷_ 58
+      (List._∷_ 58 (List._∷_ 65 (List._∷_ 110 (List._∷_ 115 (List._∷_ 119 (List._∷_ 101 (List._∷_ 114 List.[]))))))))))))))))))))))))))))) (Syntax.ttcons (Syntax.tcons (Syntax.tyInt
+      Syntax.w32) Syntax.tnil) (Syntax.ttcons (Syntax.tcons (Syntax.tyEnum (List._∷_ 114 (List._∷_ 101 (List._∷_ 102 (List._∷_ 117 (List._∷_ 115 (List._∷_ 97 (List._∷_ 108 (List._∷_
+      58 (List._∷_ 58 (List._∷_ 82 (List._∷_ 101 (List._∷_ 102 (List._∷_ 117 (List._∷_ 115 (List._∷_ 97 (List._∷_ 108 List.[])))))))))))))))) (Syntax.ttcons Syntax.tnil
       (Syntax.ttcons Syntax.tnil (Syntax.ttcons Syntax.tnil (Syntax.ttcons Syntax.tnil (Syntax.ttcons Syntax.tnil (Syntax.ttcons Syntax.tnil (Syntax.ttcons Syntax.tnil (Syntax.ttcons
-      Syntax.tnil (Syntax.ttcons Syntax.tnil Syntax.ttnil))))))))))))) Syntax.tnil) Syntax.ttnil))),
+      Syntax.tnil (Syntax.ttcons Syntax.tnil (Syntax.ttcons Syntax.tnil (Syntax.ttcons Syntax.tnil (Syntax.ttcons Syntax.tnil Syntax.ttnil))))))))))))) Syntax.tnil) Syntax.ttnil))),
 ) (List._∷_ (
   1,
-  Rows.any-gone (Syntax.tyStruct (List._∷_ 103 (List._∷_ 114
-      (List._∷_ 101 (List._∷_ 101 (List._∷_ 110 (List._∷_ 119 (List._∷_ 97 (List._∷_ 108 (List._∷_ 100 (List._∷_ 95 (List._∷_ 107 (List._∷_ 104 (List._∷_ 97 (List._∷_ 110 (List._∷_
-      110 (List._∷_ 97 (List._∷_ 95 (List._∷_ 115 (List._∷_ 116 (List._∷_ 101 (List._∷_ 112 (List._∷_ 115 (List._∷_ 58 (List._∷_ 58 (List._∷_ 83 (List._∷_ 116 (List._∷_ 114 (List._∷_
-      101 (List._∷_ 97 (List._∷_ 109 List.[])))))))))))))))))))))))))))))) (Syntax.tcons (Syntax.tyStruct (List._∷_ 102 (List._∷_ 114 (List._∷_ 97 (List._∷_ 99 (List._∷_ 116
-      (List._∷_ 105 (List._∷_ 111 (List._∷_ 110 (List._∷_ 58 (List._∷_ 58 (List._∷_ 70 (List._∷_ 114 (List._∷_ 97 (List._∷_ 99 (List._∷_ 116 (List._∷_ 105 (List._∷_ 111 (List._∷_ 110
-      List.[])))))))))))))))))) (Syntax.tcons (Syntax.tyInt Syntax.w32) (Syntax.tcons (Syntax.tyInt Syntax.w32) Syntax.tnil))) (Syntax.tcons (Syntax.tyInt Syntax.w32) (Syntax.tcons
-      (Syntax.tyInt Syntax.w32) Syntax.tnil)))),
-) (List._∷_ (2, Rows.sslice Of.R (Syntax.tyRef (Syntax.named 0) Syntax.imm Of.tyBy) 0) (List._∷_ (
+  Rows.any-gone (Syntax.tyStruct (List._∷_ 103 (List._∷_ 114 (List._∷_ 101 (List._∷_ 101 (List._∷_ 110 (List._∷_ 119 (List._∷_ 97 (List._∷_ 108 (List._∷_ 100
+      (List._∷_ 95 (List._∷_ 107 (List._∷_ 104 (List._∷_ 97 (List._∷_ 110 (List._∷_ 110 (List._∷_ 97 (List._∷_ 95 (List._∷_ 115 (List._∷_ 116 (List._∷_ 101 (List._∷_ 112 (List._∷_
+      115 (List._∷_ 58 (List._∷_ 58 (List._∷_ 83 (List._∷_ 116 (List._∷_ 114 (List._∷_ 101 (List._∷_ 97 (List._∷_ 109 List.[])))))))))))))))))))))))))))))) (Syntax.tcons
+      (Syntax.tyStruct (List._∷_ 102 (List._∷_ 114 (List._∷_ 97 (List._∷_ 99 (List._∷_ 116 (List._∷_ 105 (List._∷_ 111 (List._∷_ 110 (List._∷_ 58 (List._∷_ 58 (List._∷_ 70 (List._∷_
+      114 (List._∷_ 97 (List._∷_ 99 (List._∷_ 116 (List._∷_ 105 (List._∷_ 111 (List._∷_ 110 List.[])))))))))))))))))) (Syntax.tcons (Syntax.tyInt Syntax.w32) (Syntax.tcons
+      (Syntax.tyInt Syntax.w32) Syntax.tnil))) (Syntax.tcons (Syntax.tyInt Syntax.w32) (Syntax.tcons (Syntax.tyInt Syntax.w32) Syntax.tnil)))),
+) (List._∷_ (
+  2,
+  Rows.sslice Of.R
+      (Syntax.tyRef (Syntax.named 0) Syntax.imm Of.tyBy) 0,
+) (List._∷_ (
   3,
-  Rows.any-gone (Syntax.tyEnum
-      (List._∷_ 103 (List._∷_ 114 (List._∷_ 101 (List._∷_ 101 (List._∷_ 110 (List._∷_ 119 (List._∷_ 97 (List._∷_ 108 (List._∷_ 100 (List._∷_ 95 (List._∷_ 107 (List._∷_ 104 (List._∷_
-      97 (List._∷_ 110 (List._∷_ 110 (List._∷_ 97 (List._∷_ 95 (List._∷_ 112 (List._∷_ 97 (List._∷_ 114 (List._∷_ 116 (List._∷_ 58 (List._∷_ 58 (List._∷_ 81 (List._∷_ 117 (List._∷_
-      101 (List._∷_ 115 (List._∷_ 116 (List._∷_ 105 (List._∷_ 111 (List._∷_ 110 List.[]))))))))))))))))))))))))))))))) (Syntax.ttcons (Syntax.tcons (Syntax.tyStruct (List._∷_ 102
-      (List._∷_ 114 (List._∷_ 97 (List._∷_ 99 (List._∷_ 116 (List._∷_ 105 (List._∷_ 111 (List._∷_ 110 (List._∷_ 58 (List._∷_ 58 (List._∷_ 70 (List._∷_ 114 (List._∷_ 97 (List._∷_ 99
-      (List._∷_ 116 (List._∷_ 105 (List._∷_ 111 (List._∷_ 110 List.[])))))))))))))))))) (Syntax.tcons (Syntax.tyInt Syntax.w32) (Syntax.tcons (Syntax.tyInt Syntax.w32) Syntax.tnil)))
-      Syntax.tnil) (Syntax.ttcons Syntax.tnil (Syntax.ttcons Syntax.tnil (Syntax.ttcons Syntax.tnil Syntax.ttnil))))),
-) (List._∷_ (4, Rows.sc-here (Row.sInt Syntax.w64)) (List._∷_ (
-  5,
-  Rows.any-gone (Syntax.tyInt Syntax.w64),
-) (List._∷_ (6, Rows.any-gone Syntax.tyBool) (List._∷_ (7, Rows.whole (Declared.row Refusal.the-type)) List.[])))))))
+  Rows.any-gone (Syntax.tyEnum (List._∷_ 103 (List._∷_ 114 (List._∷_ 101 (List._∷_ 101 (List._∷_ 110
+      (List._∷_ 119 (List._∷_ 97 (List._∷_ 108 (List._∷_ 100 (List._∷_ 95 (List._∷_ 107 (List._∷_ 104 (List._∷_ 97 (List._∷_ 110 (List._∷_ 110 (List._∷_ 97 (List._∷_ 95 (List._∷_ 112
+      (List._∷_ 97 (List._∷_ 114 (List._∷_ 116 (List._∷_ 58 (List._∷_ 58 (List._∷_ 81 (List._∷_ 117 (List._∷_ 101 (List._∷_ 115 (List._∷_ 116 (List._∷_ 105 (List._∷_ 111 (List._∷_
+      110 List.[]))))))))))))))))))))))))))))))) (Syntax.ttcons (Syntax.tcons (Syntax.tyStruct (List._∷_ 102 (List._∷_ 114 (List._∷_ 97 (List._∷_ 99 (List._∷_ 116 (List._∷_ 105
+      (List._∷_ 111 (List._∷_ 110 (List._∷_ 58 (List._∷_ 58 (List._∷_ 70 (List._∷_ 114 (List._∷_ 97 (List._∷_ 99 (List._∷_ 116 (List._∷_ 105 (List._∷_ 111 (List._∷_ 110
+      List.[])))))))))))))))))) (Syntax.tcons (Syntax.tyInt Syntax.w32) (Syntax.tcons (Syntax.tyInt Syntax.w32) Syntax.tnil))) Syntax.tnil) (Syntax.ttcons Syntax.tnil (Syntax.ttcons
+      Syntax.tnil (Syntax.ttcons Syntax.tnil Syntax.ttnil))))),
+) (List._∷_ (4, Rows.sc-here (Row.sInt Syntax.w64)) (List._∷_ (5, Rows.any-gone (Syntax.tyInt Syntax.w64))
+    (List._∷_ (6, Rows.any-gone Syntax.tyBool) (List._∷_ (7, Rows.whole (Declared.row Refusal.the-type)) List.[])))))))
 
 abbrev pub t8 : List.List Row.Entry
 t8 = List._∷_ (0, Rows.whole (Declared.row Answer.the-type)) (List._∷_ (
@@ -581,26 +584,26 @@ abbrev pub t10 : List.List Row.Entry
 t10 = List._∷_ (
   0,
   Rows.any-gone (Syntax.tyEnum (List._∷_ 103 (List._∷_ 114 (List._∷_ 101 (List._∷_ 101 (List._∷_ 110 (List._∷_ 119 (List._∷_ 97 (List._∷_ 108 (List._∷_ 100
-      (List._∷_ 95 (List._∷_ 107 (List._∷_ 104 (List._∷_ 97 (List._∷_ 110 (List._∷_ 110 (List._∷_ 97 (List._∷_ 58 (List._∷_ 58 (List._∷_ 65 (List._∷_ 110 (List._∷_ 115 (List._∷_ 119
-      (List._∷_ 101 (List._∷_ 114 List.[])))))))))))))))))))))))) (Syntax.ttcons (Syntax.tcons (Syntax.tyInt Syntax.w32) Syntax.tnil) (Syntax.ttcons (Syntax.tcons (Syntax.tyEnum
-      (List._∷_ 114 (List._∷_ 101 (List._∷_ 102 (List._∷_ 117 (List._∷_ 115 (List._∷_ 97 (List._∷_ 108 (List._∷_ 58 (List._∷_ 58 (List._∷_ 82 (List._∷_ 101 (List._∷_ 102 (List._∷_
-      117 (List._∷_ 115 (List._∷_ 97 (List._∷_ 108 List.[])))))))))))))))) (Syntax.ttcons Syntax.tnil (Syntax.ttcons Syntax.tnil (Syntax.ttcons Syntax.tnil (Syntax.ttcons Syntax.tnil
+      (List._∷_ 95 (List._∷_ 107 (List._∷_ 104 (List._∷_ 97 (List._∷_ 110 (List._∷_ 110 (List._∷_ 97 (List._∷_ 95 (List._∷_ 116 (List._∷_ 111 (List._∷_ 108 (List._∷_ 100 (List._∷_ 58
+      (List._∷_ 58 (List._∷_ 65 (List._∷_ 110 (List._∷_ 115 (List._∷_ 119 (List._∷_ 101 (List._∷_ 114 List.[]))))))))))))))))))))))))))))) (Syntax.ttcons (Syntax.tcons (Syntax.tyInt
+      Syntax.w32) Syntax.tnil) (Syntax.ttcons (Syntax.tcons (Syntax.tyEnum (List._∷_ 114 (List._∷_ 101 (List._∷_ 102 (List._∷_ 117 (List._∷_ 115 (List._∷_ 97 (List._∷_ 108 (List._∷_
+      58 (List._∷_ 58 (List._∷_ 82 (List._∷_ 101 (List._∷_ 102 (List._∷_ 117 (List._∷_ 115 (List._∷_ 97 (List._∷_ 108 List.[])))))))))))))))) (Syntax.ttcons Syntax.tnil
       (Syntax.ttcons Syntax.tnil (Syntax.ttcons Syntax.tnil (Syntax.ttcons Syntax.tnil (Syntax.ttcons Syntax.tnil (Syntax.ttcons Syntax.tnil (Syntax.ttcons Syntax.tnil (Syntax.ttcons
-      Syntax.tnil (Syntax.ttcons Syntax.tnil Syntax.ttnil))))))))))))) Syntax.tnil) Syntax.ttnil))),
-) (List._∷_ (1, Rows.whole (Declared'.row Stream.the-type)) (List._∷_ (
-  2,
-  Rows.sslice Of.R (Syntax.tyRef (Syntax.named 0) Syntax.imm Of.tyBy) 0,
-) (List._∷_ (3, Rows.whole (Declared.row Question.the-type)) (List._∷_ (
-  4,
-  Rows.sc-here (Row.sInt
-      Syntax.w64),
-) (List._∷_ (5, Rows.sc-here (Row.sInt Syntax.w64)) (List._∷_ (6, Rows.any-gone Syntax.tyBool) (List._∷_ (
+      Syntax.tnil (Syntax.ttcons Syntax.tnil (Syntax.ttcons Syntax.tnil (Syntax.ttcons Syntax.tnil (Syntax.ttcons Syntax.tnil Syntax.ttnil))))))))))))) Syntax.tnil) Syntax.ttnil))),
+) (List._∷_ (1, Rows.whole (Declared'.row Stream.the-type)) (List._∷_ (2, Rows.sslice Of.R (Syntax.tyRef (Syntax.named 0) Syntax.imm Of.tyBy) 0) (List._∷_ (
+  3,
+  Rows.whole
+      (Declared.row Question.the-type),
+) (List._∷_ (4, Rows.sc-here (Row.sInt Syntax.w64)) (List._∷_ (5, Rows.sc-here (Row.sInt Syntax.w64)) (List._∷_ (
+  6,
+  Rows.any-gone
+      Syntax.tyBool,
+) (List._∷_ (
   7,
-  Rows.any-gone (Syntax.tyEnum (List._∷_ 114 (List._∷_
-      101 (List._∷_ 102 (List._∷_ 117 (List._∷_ 115 (List._∷_ 97 (List._∷_ 108 (List._∷_ 58 (List._∷_ 58 (List._∷_ 82 (List._∷_ 101 (List._∷_ 102 (List._∷_ 117 (List._∷_ 115
-      (List._∷_ 97 (List._∷_ 108 List.[])))))))))))))))) (Syntax.ttcons Syntax.tnil (Syntax.ttcons Syntax.tnil (Syntax.ttcons Syntax.tnil (Syntax.ttcons Syntax.tnil (Syntax.ttcons
+  Rows.any-gone (Syntax.tyEnum (List._∷_ 114 (List._∷_ 101 (List._∷_ 102 (List._∷_ 117 (List._∷_ 115 (List._∷_ 97 (List._∷_ 108 (List._∷_ 58
+      (List._∷_ 58 (List._∷_ 82 (List._∷_ 101 (List._∷_ 102 (List._∷_ 117 (List._∷_ 115 (List._∷_ 97 (List._∷_ 108 List.[])))))))))))))))) (Syntax.ttcons Syntax.tnil (Syntax.ttcons
       Syntax.tnil (Syntax.ttcons Syntax.tnil (Syntax.ttcons Syntax.tnil (Syntax.ttcons Syntax.tnil (Syntax.ttcons Syntax.tnil (Syntax.ttcons Syntax.tnil (Syntax.ttcons Syntax.tnil
-      (Syntax.ttcons Syntax.tnil Syntax.ttnil))))))))))))),
+      (Syntax.ttcons Syntax.tnil (Syntax.ttcons Syntax.tnil (Syntax.ttcons Syntax.tnil (Syntax.ttcons Syntax.tnil Syntax.ttnil))))))))))))),
 ) List.[])))))))
 
 abbrev pub t11 : List.List Row.Entry
@@ -827,12 +830,12 @@ module _ (claims· : Claims) where
     ),
   ) 0 (List._∷_ 0 List.[]) (Syntax.tyEnum (List._∷_ 103 (List._∷_
       114 (List._∷_ 101 (List._∷_ 101 (List._∷_ 110 (List._∷_ 119 (List._∷_ 97 (List._∷_ 108 (List._∷_ 100 (List._∷_ 95 (List._∷_ 107 (List._∷_ 104 (List._∷_ 97 (List._∷_ 110
-      (List._∷_ 110 (List._∷_ 97 (List._∷_ 58 (List._∷_ 58 (List._∷_ 65 (List._∷_ 110 (List._∷_ 115 (List._∷_ 119 (List._∷_ 101 (List._∷_ 114 List.[]))))))))))))))))))))))))
-      (Syntax.ttcons (Syntax.tcons (Syntax.tyInt Syntax.w32) Syntax.tnil) (Syntax.ttcons (Syntax.tcons (Syntax.tyEnum (List._∷_ 114 (List._∷_ 101 (List._∷_ 102 (List._∷_ 117
-      (List._∷_ 115 (List._∷_ 97 (List._∷_ 108 (List._∷_ 58 (List._∷_ 58 (List._∷_ 82 (List._∷_ 101 (List._∷_ 102 (List._∷_ 117 (List._∷_ 115 (List._∷_ 97 (List._∷_ 108
-      List.[])))))))))))))))) (Syntax.ttcons Syntax.tnil (Syntax.ttcons Syntax.tnil (Syntax.ttcons Syntax.tnil (Syntax.ttcons Syntax.tnil (Syntax.ttcons Syntax.tnil (Syntax.ttcons
-      Syntax.tnil (Syntax.ttcons Syntax.tnil (Syntax.ttcons Syntax.tnil (Syntax.ttcons Syntax.tnil (Syntax.ttcons Syntax.tnil (Syntax.ttcons Syntax.tnil (Syntax.ttcons Syntax.tnil
-      Syntax.ttnil))))))))))))) Syntax.tnil) Syntax.ttnil)))
+      (List._∷_ 110 (List._∷_ 97 (List._∷_ 95 (List._∷_ 116 (List._∷_ 111 (List._∷_ 108 (List._∷_ 100 (List._∷_ 58 (List._∷_ 58 (List._∷_ 65 (List._∷_ 110 (List._∷_ 115 (List._∷_
+      119 (List._∷_ 101 (List._∷_ 114 List.[]))))))))))))))))))))))))))))) (Syntax.ttcons (Syntax.tcons (Syntax.tyInt Syntax.w32) Syntax.tnil) (Syntax.ttcons (Syntax.tcons
+      (Syntax.tyEnum (List._∷_ 114 (List._∷_ 101 (List._∷_ 102 (List._∷_ 117 (List._∷_ 115 (List._∷_ 97 (List._∷_ 108 (List._∷_ 58 (List._∷_ 58 (List._∷_ 82 (List._∷_ 101 (List._∷_
+      102 (List._∷_ 117 (List._∷_ 115 (List._∷_ 97 (List._∷_ 108 List.[])))))))))))))))) (Syntax.ttcons Syntax.tnil (Syntax.ttcons Syntax.tnil (Syntax.ttcons Syntax.tnil
+      (Syntax.ttcons Syntax.tnil (Syntax.ttcons Syntax.tnil (Syntax.ttcons Syntax.tnil (Syntax.ttcons Syntax.tnil (Syntax.ttcons Syntax.tnil (Syntax.ttcons Syntax.tnil
+      (Syntax.ttcons Syntax.tnil (Syntax.ttcons Syntax.tnil (Syntax.ttcons Syntax.tnil Syntax.ttnil))))))))))))) Syntax.tnil) Syntax.ttnil)))
 
   abbrev s12 : Typed.Mo T14 → Typed.Mo T15
   s12 = Scalar.n-room T14 1 (Syntax.tyStruct (List._∷_ 103 (List._∷_ 114 (List._∷_ 101 (List._∷_ 101 (List._∷_ 110 (List._∷_ 119 (List._∷_ 97 (List._∷_ 108 (List._∷_ 100 (List._∷_
@@ -1023,68 +1026,37 @@ module _ (claims· : Claims) where
               Syntax.tnil (Syntax.ttcons Syntax.tnil Syntax.ttnil))))))))))))) Path'.refl)) d1
 
           d3 : Typed.Typed 𝓤 H A 𝓣 E G8 b5 Δ1 at3
-          d3 = Typed.s-seq 𝓤 H A W 𝓣 E G8 G9 b3 b4 Δ1 (Typed.pass T8 T9 s6) at2 (Make.t-enum-make-wt 𝓤 H A W E 𝓣 Answer.the-type Laws.the-laws Laws.the-plain tt G8 0 (List._∷_
+          d3 = Typed.s-seq 𝓤 H A W 𝓣 E G8 G9 b3 b4 Δ1 (Typed.pass T8 T9 s6) at2 (Make.t-enum-make-wt 𝓤 H A W E 𝓣 Answer.the-type Laws''.the-laws Laws''.the-plain tt G8 0 (List._∷_
               (Scalar.oInt Syntax.w8 1) (List._∷_ (Scalar.oAt 7 (Syntax.tyEnum (List._∷_ 114 (List._∷_ 101 (List._∷_ 102 (List._∷_ 117 (List._∷_ 115 (List._∷_ 97 (List._∷_ 108
               (List._∷_ 58 (List._∷_ 58 (List._∷_ 82 (List._∷_ 101 (List._∷_ 102 (List._∷_ 117 (List._∷_ 115 (List._∷_ 97 (List._∷_ 108 List.[])))))))))))))))) (Syntax.ttcons
               Syntax.tnil (Syntax.ttcons Syntax.tnil (Syntax.ttcons Syntax.tnil (Syntax.ttcons Syntax.tnil (Syntax.ttcons Syntax.tnil (Syntax.ttcons Syntax.tnil (Syntax.ttcons
               Syntax.tnil (Syntax.ttcons Syntax.tnil (Syntax.ttcons Syntax.tnil (Syntax.ttcons Syntax.tnil (Syntax.ttcons Syntax.tnil (Syntax.ttcons Syntax.tnil
               Syntax.ttnil))))))))))))) (Laws'4.val Refusal.the-type Laws'3.the-laws)) List.[])) (λ m. Answer.enum .make (Logic.inr (Logic.inl (m .1 .1 .1 .1 .1 .1 .1 .0, tt))))
               (Reads.room-gone 𝓤 H A (Syntax.tyEnum (List._∷_ 103 (List._∷_ 114 (List._∷_ 101 (List._∷_ 101 (List._∷_ 110 (List._∷_ 119 (List._∷_ 97 (List._∷_ 108 (List._∷_ 100
-              (List._∷_ 95 (List._∷_ 107 (List._∷_ 104 (List._∷_ 97 (List._∷_ 110 (List._∷_ 110 (List._∷_ 97 (List._∷_ 58 (List._∷_ 58 (List._∷_ 65 (List._∷_ 110 (List._∷_ 115
-              (List._∷_ 119 (List._∷_ 101 (List._∷_ 114 List.[])))))))))))))))))))))))) (Syntax.ttcons (Syntax.tcons (Syntax.tyInt Syntax.w32) Syntax.tnil) (Syntax.ttcons
-              (Syntax.tcons (Syntax.tyEnum (List._∷_ 114 (List._∷_ 101 (List._∷_ 102 (List._∷_ 117 (List._∷_ 115 (List._∷_ 97 (List._∷_ 108 (List._∷_ 58 (List._∷_ 58 (List._∷_ 82
-              (List._∷_ 101 (List._∷_ 102 (List._∷_ 117 (List._∷_ 115 (List._∷_ 97 (List._∷_ 108 List.[])))))))))))))))) (Syntax.ttcons Syntax.tnil (Syntax.ttcons Syntax.tnil
+              (List._∷_ 95 (List._∷_ 107 (List._∷_ 104 (List._∷_ 97 (List._∷_ 110 (List._∷_ 110 (List._∷_ 97 (List._∷_ 95 (List._∷_ 116 (List._∷_ 111 (List._∷_ 108 (List._∷_ 100
+              (List._∷_ 58 (List._∷_ 58 (List._∷_ 65 (List._∷_ 110 (List._∷_ 115 (List._∷_ 119 (List._∷_ 101 (List._∷_ 114 List.[]))))))))))))))))))))))))))))) (Syntax.ttcons
+              (Syntax.tcons (Syntax.tyInt Syntax.w32) Syntax.tnil) (Syntax.ttcons (Syntax.tcons (Syntax.tyEnum (List._∷_ 114 (List._∷_ 101 (List._∷_ 102 (List._∷_ 117 (List._∷_ 115
+              (List._∷_ 97 (List._∷_ 108 (List._∷_ 58 (List._∷_ 58 (List._∷_ 82 (List._∷_ 101 (List._∷_ 102 (List._∷_ 117 (List._∷_ 115 (List._∷_ 97 (List._∷_ 108
+              List.[])))))))))))))))) (Syntax.ttcons Syntax.tnil (Syntax.ttcons Syntax.tnil (Syntax.ttcons Syntax.tnil (Syntax.ttcons Syntax.tnil (Syntax.ttcons Syntax.tnil
               (Syntax.ttcons Syntax.tnil (Syntax.ttcons Syntax.tnil (Syntax.ttcons Syntax.tnil (Syntax.ttcons Syntax.tnil (Syntax.ttcons Syntax.tnil (Syntax.ttcons Syntax.tnil
-              (Syntax.ttcons Syntax.tnil (Syntax.ttcons Syntax.tnil (Syntax.ttcons Syntax.tnil (Syntax.ttcons Syntax.tnil Syntax.ttnil))))))))))))) Syntax.tnil) Syntax.ttnil)))) (
+              (Syntax.ttcons Syntax.tnil Syntax.ttnil))))))))))))) Syntax.tnil) Syntax.ttnil)))) (
                 tt,
-                ((Whole.reads-enum 𝓤 H A W Refusal.the-type Laws'3.the-laws, Path'.refl), tt),
-              ) Path'.refl (λ m wa. Make.made-val Answer.the-type Laws.the-laws (List._∷_
-              (Laws'4.val Refusal.the-type Laws'3.the-laws (m .1 .1 .1 .1 .1 .1 .1 .0)) List.[]) (Answer.enum .make (Logic.inr (Logic.inl (m .1 .1 .1 .1 .1 .1 .1 .0, tt)))) (
+                (
+                  (Whole.reads-enum 𝓤 H A W Refusal.the-type Laws'3.the-laws, Path'.refl),
+                  tt,
+                ),
+              ) Path'.refl (λ m wa. Make.made-val Answer.the-type Laws''.the-laws (List._∷_ (Laws'4.val Refusal.the-type Laws'3.the-laws (m .1 .1 .1 .1 .1 .1 .1 .0)) List.[])
+              (Answer.enum .make (Logic.inr (Logic.inl (m .1 .1 .1 .1 .1 .1 .1 .0, tt)))) (
+                Signed.made-wt Refusal.the-field Laws'3.the-field-laws (Whole.enum-wt Refusal.the-type
+                    Laws'3.the-laws (tt, (tt, (tt, (tt, (tt, (tt, (tt, (tt, (tt, (tt, (tt, (tt, tt))))))))))))) (Refusal.the-type .to (m .1 .1 .1 .1 .1 .1 .1 .0)),
+                tt,
+              ) (wa .1)) λ
+              m wa. Make.made-is Answer.the-type Laws''.the-laws (List._∷_ (Laws'4.val Refusal.the-type Laws'3.the-laws (m .1 .1 .1 .1 .1 .1 .1 .0)) List.[]) (Answer.enum .make
+              (Logic.inr (Logic.inl (m .1 .1 .1 .1 .1 .1 .1 .0, tt)))) (
                 Signed.made-wt Refusal.the-field Laws'3.the-field-laws (Whole.enum-wt Refusal.the-type Laws'3.the-laws (
                   tt,
-                  (
-                    tt,
-                    (
-                      tt,
-                      (
-                        tt,
-                        (
-                          tt,
-                          (
-                            tt,
-                            (
-                              tt,
-                              (
-                                tt,
-                                (
-                                  tt,
-                                  (
-                                    tt,
-                                    (
-                                      tt,
-                                      (
-                                        tt,
-                                        tt,
-                                      ),
-                                    ),
-                                  ),
-                                ),
-                              ),
-                            ),
-                          ),
-                        ),
-                      ),
-                    ),
-                  ),
+                  (tt, (tt, (tt, (tt, (tt, (tt, (tt, (tt, (tt, (tt, (tt, tt))))))))))),
                 )) (Refusal.the-type .to (m .1 .1 .1 .1 .1 .1 .1 .0)),
-                tt,
-              ) (wa .1)) λ m wa. Make.made-is Answer.the-type Laws.the-laws (List._∷_ (Laws'4.val
-              Refusal.the-type Laws'3.the-laws (m .1 .1 .1 .1 .1 .1 .1 .0)) List.[]) (Answer.enum .make (Logic.inr (Logic.inl (m .1 .1 .1 .1 .1 .1 .1 .0, tt)))) (
-                Signed.made-wt
-                    Refusal.the-field Laws'3.the-field-laws (Whole.enum-wt Refusal.the-type Laws'3.the-laws (
-                      tt,
-                      (tt, (tt, (tt, (tt, (tt, (tt, (tt, (tt, (tt, (tt, (tt, tt))))))))))),
-                    )) (Refusal.the-type .to (m .1 .1 .1 .1 .1 .1 .1 .0)),
                 tt,
               ) (wa .1)) d2
 
@@ -1197,7 +1169,7 @@ module _ (claims· : Claims) where
                 ),
               ) 0 (List._∷_ 0 List.[]) (Call.sub-id 𝓤 H A W (G13 .slots)) (
                 (
-                  Yields.yields-copy 𝓤 H A W (λ ρ. Unit) (Declared'.row Stream.the-type) Path'.refl (Copies.cStruct Stream.the-type Laws''.the-laws Laws''.the-copy .copy 𝓤 H A W)
+                  Yields.yields-copy 𝓤 H A W (λ ρ. Unit) (Declared'.row Stream.the-type) Path'.refl (Copies.cStruct Stream.the-type Laws'.the-laws Laws'.the-copy .copy 𝓤 H A W)
                       (Rows.whole (Declared'.row Stream.the-type)) (λ x. x) (λ x. x) (λ ρ told. Local.mem-whole 𝓤 H A W (Declared'.row Stream.the-type) ρ) λ ρ told. Local.whole-mem 𝓤 H A W
                       (Declared'.row Stream.the-type) ρ,
                   Path'.refl,
@@ -1212,7 +1184,7 @@ module _ (claims· : Claims) where
                     (
                       (
                         Yields.yields-copy 𝓤 H A
-                            W (λ ρ. Unit) (Declared.row Question.the-type) Path'.refl (Copies.cEnum Question.the-type Laws'.the-laws Laws'.the-copy .copy 𝓤 H A W) (Rows.whole (Declared.row
+                            W (λ ρ. Unit) (Declared.row Question.the-type) Path'.refl (Copies.cEnum Question.the-type Laws.the-laws Laws.the-copy .copy 𝓤 H A W) (Rows.whole (Declared.row
                             Question.the-type)) (λ x. x) (λ x. x) (λ ρ told. Local.mem-whole 𝓤 H A W (Declared.row Question.the-type) ρ) λ ρ told. Local.whole-mem 𝓤 H A W (Declared.row
                             Question.the-type) ρ,
                         Path'.refl,
@@ -1222,19 +1194,19 @@ module _ (claims· : Claims) where
                   ),
                 ),
               ) (Reads.room-gone 𝓤 H A (Syntax.tyEnum (List._∷_ 103 (List._∷_ 114 (List._∷_ 101 (List._∷_ 101 (List._∷_ 110
-              (List._∷_ 119 (List._∷_ 97 (List._∷_ 108 (List._∷_ 100 (List._∷_ 95 (List._∷_ 107 (List._∷_ 104 (List._∷_ 97 (List._∷_ 110 (List._∷_ 110 (List._∷_ 97 (List._∷_ 58
-              (List._∷_ 58 (List._∷_ 65 (List._∷_ 110 (List._∷_ 115 (List._∷_ 119 (List._∷_ 101 (List._∷_ 114 List.[])))))))))))))))))))))))) (Syntax.ttcons (Syntax.tcons
-              (Syntax.tyInt Syntax.w32) Syntax.tnil) (Syntax.ttcons (Syntax.tcons (Syntax.tyEnum (List._∷_ 114 (List._∷_ 101 (List._∷_ 102 (List._∷_ 117 (List._∷_ 115 (List._∷_ 97
-              (List._∷_ 108 (List._∷_ 58 (List._∷_ 58 (List._∷_ 82 (List._∷_ 101 (List._∷_ 102 (List._∷_ 117 (List._∷_ 115 (List._∷_ 97 (List._∷_ 108 List.[]))))))))))))))))
-              (Syntax.ttcons Syntax.tnil (Syntax.ttcons Syntax.tnil (Syntax.ttcons Syntax.tnil (Syntax.ttcons Syntax.tnil (Syntax.ttcons Syntax.tnil (Syntax.ttcons Syntax.tnil
-              (Syntax.ttcons Syntax.tnil (Syntax.ttcons Syntax.tnil (Syntax.ttcons Syntax.tnil (Syntax.ttcons Syntax.tnil (Syntax.ttcons Syntax.tnil (Syntax.ttcons Syntax.tnil
-              Syntax.ttnil))))))))))))) Syntax.tnil) Syntax.ttnil)))) (tt, tt) Path'.refl) d15
+              (List._∷_ 119 (List._∷_ 97 (List._∷_ 108 (List._∷_ 100 (List._∷_ 95 (List._∷_ 107 (List._∷_ 104 (List._∷_ 97 (List._∷_ 110 (List._∷_ 110 (List._∷_ 97 (List._∷_ 95
+              (List._∷_ 116 (List._∷_ 111 (List._∷_ 108 (List._∷_ 100 (List._∷_ 58 (List._∷_ 58 (List._∷_ 65 (List._∷_ 110 (List._∷_ 115 (List._∷_ 119 (List._∷_ 101 (List._∷_ 114
+              List.[]))))))))))))))))))))))))))))) (Syntax.ttcons (Syntax.tcons (Syntax.tyInt Syntax.w32) Syntax.tnil) (Syntax.ttcons (Syntax.tcons (Syntax.tyEnum (List._∷_ 114
+              (List._∷_ 101 (List._∷_ 102 (List._∷_ 117 (List._∷_ 115 (List._∷_ 97 (List._∷_ 108 (List._∷_ 58 (List._∷_ 58 (List._∷_ 82 (List._∷_ 101 (List._∷_ 102 (List._∷_ 117
+              (List._∷_ 115 (List._∷_ 97 (List._∷_ 108 List.[])))))))))))))))) (Syntax.ttcons Syntax.tnil (Syntax.ttcons Syntax.tnil (Syntax.ttcons Syntax.tnil (Syntax.ttcons
+              Syntax.tnil (Syntax.ttcons Syntax.tnil (Syntax.ttcons Syntax.tnil (Syntax.ttcons Syntax.tnil (Syntax.ttcons Syntax.tnil (Syntax.ttcons Syntax.tnil (Syntax.ttcons
+              Syntax.tnil (Syntax.ttcons Syntax.tnil (Syntax.ttcons Syntax.tnil Syntax.ttnil))))))))))))) Syntax.tnil) Syntax.ttnil)))) (tt, tt) Path'.refl) d15
 
           d17 : Typed.Typed 𝓤 H A 𝓣 E G4 b13 Δ0 at17
           d17 = Typed.s-seq 𝓤 H A W 𝓣 E G4 G13 b9 b12 Δ0 (Typed.both s10) at16 (Plain.t-call-plain 𝓤 H A W 𝓣 0 ps·0 r·0 (claims· .0) (claims· .1) "greenwald_khanna_part::reach"
               (known .0) E (λ pos β. β) G4 (record { pos = 1; st = List.[]; d = 0; at = λ x. x }, (Num.vAt 4 λ x. x, tt)) 5 List.[] (Call.sub-id 𝓤 H A W (G4 .slots)) (
                 (
-                  Yields.yields-copy 𝓤 H A W (λ ρ. Unit) (Declared'.row Stream.the-type) Path'.refl (Copies.cStruct Stream.the-type Laws''.the-laws Laws''.the-copy .copy 𝓤 H A W)
+                  Yields.yields-copy 𝓤 H A W (λ ρ. Unit) (Declared'.row Stream.the-type) Path'.refl (Copies.cStruct Stream.the-type Laws'.the-laws Laws'.the-copy .copy 𝓤 H A W)
                       (Rows.whole (Declared'.row Stream.the-type)) (λ x. x) (λ x. x) (λ ρ told. Local.mem-whole 𝓤 H A W (Declared'.row Stream.the-type) ρ) λ ρ told. Local.whole-mem 𝓤 H A W
                       (Declared'.row Stream.the-type) ρ,
                   Path'.refl,
@@ -1271,19 +1243,18 @@ module _ (claims· : Claims) where
           pub stream : Kinds.Den {n = 1} κs (Value.pVal record {
             ty = Declared'.row Stream.the-type;
             one = Path'.refl;
-            val = Laws'5.val Stream.the-type Laws''.the-laws;
+            val = Laws'5.val Stream.the-type Laws'.the-laws;
             tells =
-                Laws'5.tells Stream.the-type Laws''.the-laws;
-            still = Laws'5.still Stream.the-type Laws''.the-copy Exit.yes;
+                Laws'5.tells Stream.the-type Laws'.the-laws;
+            still = Laws'5.still Stream.the-type Laws'.the-copy Exit.yes;
             row = Rows.whole (Declared'.row Stream.the-type);
-            rd = λ
-                x. x;
+            rd = λ x.
+                x;
             mk = λ x. x;
           } λ M 𝓤 H A W. record {
-            copies = Laws'5.copy Stream.the-type Laws''.the-copy 𝓤 H A W;
-            lawful = Laws'5.lawful Stream.the-type Laws''.the-laws 𝓤 H A
-                W;
-            makes = Laws'5.makes Stream.the-type Laws''.the-plain 𝓤 H A;
+            copies = Laws'5.copy Stream.the-type Laws'.the-copy 𝓤 H A W;
+            lawful = Laws'5.lawful Stream.the-type Laws'.the-laws 𝓤 H A W;
+            makes = Laws'5.makes Stream.the-type Laws'.the-plain 𝓤 H A;
             in-mem = Local.mem-whole 𝓤 H A W (Declared'.row Stream.the-type);
             of-mem = Local.whole-mem 𝓤 H A W
                 (Declared'.row Stream.the-type);
@@ -1292,22 +1263,22 @@ module _ (claims· : Claims) where
           pub question : Kinds.Den {n = 1} κs (Value.pVal record {
             ty = Declared.row Question.the-type;
             one = Path'.refl;
-            val = Laws'4.val Question.the-type Laws'.the-laws;
+            val = Laws'4.val Question.the-type Laws.the-laws;
             tells =
-                Laws'4.tells Question.the-type Laws'.the-laws;
-            still = Laws'4.still Question.the-type Laws'.the-copy Exit.yes;
+                Laws'4.tells Question.the-type Laws.the-laws;
+            still = Laws'4.still Question.the-type Laws.the-copy Exit.yes;
             row = Rows.whole (Declared.row Question.the-type);
-            rd =
-                λ x. x;
+            rd = λ
+                x. x;
             mk = λ x. x;
           } λ M 𝓤 H A W. record {
-            copies = Laws'4.copy Question.the-type Laws'.the-copy 𝓤 H A W;
-            lawful = Laws'4.lawful Question.the-type Laws'.the-laws 𝓤
-                H A W tt;
-            makes = Laws'4.makes Question.the-type Laws'.the-plain 𝓤 H A;
+            copies = Laws'4.copy Question.the-type Laws.the-copy 𝓤 H A W;
+            lawful = Laws'4.lawful Question.the-type Laws.the-laws 𝓤 H A
+                W tt;
+            makes = Laws'4.makes Question.the-type Laws.the-plain 𝓤 H A;
             in-mem = Local.mem-whole 𝓤 H A W (Declared.row Question.the-type);
-            of-mem = Local.whole-mem 𝓤
-                H A W (Declared.row Question.the-type);
+            of-mem = Local.whole-mem 𝓤 H A W
+                (Declared.row Question.the-type);
           })
 
         abbrev pub dens : (a : Args) → Kinds.Dens κs ps

@@ -1,12 +1,12 @@
 -- Machine-made by tools/port from the twin of `greenwald_khanna_through::ask`: never edited; tools/port/remake makes it anew.
 use Rattle.entries_face.proofs.Of
 use Prim.Native.Nat
-use Rattle.greenwald_khanna.proofs.Answer
-use Rattle.greenwald_khanna.proofs.Answer.Laws
 use Rattle.greenwald_khanna_part.proofs.Question
-use Rattle.greenwald_khanna_part.proofs.Question.Laws as Laws'
+use Rattle.greenwald_khanna_part.proofs.Question.Laws
 use Rattle.greenwald_khanna_steps.proofs.Stream
-use Rattle.greenwald_khanna_steps.proofs.Stream.Laws as Laws''
+use Rattle.greenwald_khanna_steps.proofs.Stream.Laws as Laws'
+use Rattle.greenwald_khanna_told.proofs.Answer
+use Rattle.greenwald_khanna_told.proofs.Answer.Laws as Laws''
 use borrow.Author.Called
 use borrow.Author.Tests
 use borrow.Fn.Any
@@ -68,38 +68,37 @@ abbrev pub ps : List.List (Kinds.PK 1)
 ps = List._∷_ (Value.pVal record {
   ty = Declared'.row Stream.the-type;
   one = Path'.refl;
-  val = Laws'4.val Stream.the-type Laws''.the-laws;
+  val = Laws'4.val Stream.the-type Laws'.the-laws;
   tells = Laws'4.tells Stream.the-type
-      Laws''.the-laws;
-  still = Laws'4.still Stream.the-type Laws''.the-copy Exit.yes;
+      Laws'.the-laws;
+  still = Laws'4.still Stream.the-type Laws'.the-copy Exit.yes;
   row = Rows'.whole (Declared'.row Stream.the-type);
   rd = λ x. x;
   mk = λ x. x;
-} λ M 𝓤 H A W.
-    record {
-      copies = Laws'4.copy Stream.the-type Laws''.the-copy 𝓤 H A W;
-      lawful = Laws'4.lawful Stream.the-type Laws''.the-laws 𝓤 H A W;
-      makes = Laws'4.makes Stream.the-type
-          Laws''.the-plain 𝓤 H A;
-      in-mem = Local.mem-whole 𝓤 H A W (Declared'.row Stream.the-type);
-      of-mem = Local.whole-mem 𝓤 H A W (Declared'.row Stream.the-type);
-    }) (List._∷_
+} λ M 𝓤 H A W. record {
+  copies = Laws'4.copy Stream.the-type Laws'.the-copy 𝓤 H A W;
+  lawful = Laws'4.lawful Stream.the-type Laws'.the-laws 𝓤 H A W;
+  makes = Laws'4.makes Stream.the-type
+      Laws'.the-plain 𝓤 H A;
+  in-mem = Local.mem-whole 𝓤 H A W (Declared'.row Stream.the-type);
+  of-mem = Local.whole-mem 𝓤 H A W (Declared'.row Stream.the-type);
+}) (List._∷_
     (ShrSlice.pShrS Of.R 0 tt) (List._∷_ (Num.pNum Syntax.w64) (List._∷_ (Value.pVal record {
       ty = Declared.row Question.the-type;
       one = Path'.refl;
       val = Laws'3.val
-          Question.the-type Laws'.the-laws;
-      tells = Laws'3.tells Question.the-type Laws'.the-laws;
-      still = Laws'3.still Question.the-type Laws'.the-copy Exit.yes;
+          Question.the-type Laws.the-laws;
+      tells = Laws'3.tells Question.the-type Laws.the-laws;
+      still = Laws'3.still Question.the-type Laws.the-copy Exit.yes;
       row = Rows'.whole
           (Declared.row Question.the-type);
       rd = λ x. x;
       mk = λ x. x;
     } λ M 𝓤 H A W. record {
-      copies = Laws'3.copy Question.the-type Laws'.the-copy 𝓤 H A W;
+      copies = Laws'3.copy Question.the-type Laws.the-copy 𝓤 H A W;
       lawful = Laws'3.lawful
-          Question.the-type Laws'.the-laws 𝓤 H A W tt;
-      makes = Laws'3.makes Question.the-type Laws'.the-plain 𝓤 H A;
+          Question.the-type Laws.the-laws 𝓤 H A W tt;
+      makes = Laws'3.makes Question.the-type Laws.the-plain 𝓤 H A;
       in-mem = Local.mem-whole 𝓤 H A W (Declared.row Question.the-type);
       of-mem = Local.whole-mem 𝓤 H A W (Declared.row Question.the-type);
     }) List.[])))
@@ -108,17 +107,18 @@ abbrev pub r : Kinds.RK 1
 r = Value.rVal record {
   ty = Declared.row Answer.the-type;
   one = Path'.refl;
-  val = Laws'3.val Answer.the-type Laws.the-laws;
-  tells = Laws'3.tells Answer.the-type Laws.the-laws;
-  still = Laws'3.still Answer.the-type Laws.the-copy Exit.yes;
+  val = Laws'3.val Answer.the-type Laws''.the-laws;
+  tells = Laws'3.tells Answer.the-type Laws''.the-laws;
+  still = Laws'3.still Answer.the-type Laws''.the-copy Exit.yes;
   row = Rows'.whole (Declared.row Answer.the-type);
   rd = λ x. x;
   mk = λ x. x;
 } λ M 𝓤 H A W. record {
   copies =
-      Laws'3.copy Answer.the-type Laws.the-copy 𝓤 H A W;
-  lawful = Laws'3.lawful Answer.the-type Laws.the-laws 𝓤 H A W tt;
-  makes = Laws'3.makes Answer.the-type Laws.the-plain 𝓤 H A;
+      Laws'3.copy Answer.the-type Laws''.the-copy 𝓤 H A W;
+  lawful = Laws'3.lawful Answer.the-type Laws''.the-laws 𝓤 H A W tt;
+  makes = Laws'3.makes Answer.the-type Laws''.the-plain 𝓤
+      H A;
   in-mem = Local.mem-whole 𝓤 H A W (Declared.row Answer.the-type);
   of-mem = Local.whole-mem 𝓤 H A W (Declared.row Answer.the-type);
 }
@@ -138,39 +138,38 @@ abbrev pub ps·0 : List.List (Kinds.PK 2)
 ps·0 = List._∷_ (Value.pVal record {
   ty = Declared'.row Stream.the-type;
   one = Path'.refl;
-  val = Laws'4.val Stream.the-type Laws''.the-laws;
+  val = Laws'4.val Stream.the-type Laws'.the-laws;
   tells = Laws'4.tells Stream.the-type
-      Laws''.the-laws;
-  still = Laws'4.still Stream.the-type Laws''.the-copy Exit.yes;
+      Laws'.the-laws;
+  still = Laws'4.still Stream.the-type Laws'.the-copy Exit.yes;
   row = Rows'.whole (Declared'.row Stream.the-type);
   rd = λ x. x;
   mk = λ x. x;
-} λ M 𝓤 H A W.
-    record {
-      copies = Laws'4.copy Stream.the-type Laws''.the-copy 𝓤 H A W;
-      lawful = Laws'4.lawful Stream.the-type Laws''.the-laws 𝓤 H A W;
-      makes = Laws'4.makes Stream.the-type
-          Laws''.the-plain 𝓤 H A;
-      in-mem = Local.mem-whole 𝓤 H A W (Declared'.row Stream.the-type);
-      of-mem = Local.whole-mem 𝓤 H A W (Declared'.row Stream.the-type);
-    }) (List._∷_
+} λ M 𝓤 H A W. record {
+  copies = Laws'4.copy Stream.the-type Laws'.the-copy 𝓤 H A W;
+  lawful = Laws'4.lawful Stream.the-type Laws'.the-laws 𝓤 H A W;
+  makes = Laws'4.makes Stream.the-type
+      Laws'.the-plain 𝓤 H A;
+  in-mem = Local.mem-whole 𝓤 H A W (Declared'.row Stream.the-type);
+  of-mem = Local.whole-mem 𝓤 H A W (Declared'.row Stream.the-type);
+}) (List._∷_
     (ShrSlice.pShrS Of.R 0 tt) (List._∷_ (Num.pNum Syntax.w64) (List._∷_ (MutSlice.pMutS (Array'.Array (Referent.rtF (Referent.fInt Syntax.w32)) 3) 1 tt) (List._∷_ (Value.pVal
     record {
       ty = Declared.row Question.the-type;
       one = Path'.refl;
-      val = Laws'3.val Question.the-type Laws'.the-laws;
-      tells = Laws'3.tells Question.the-type Laws'.the-laws;
-      still
-          = Laws'3.still Question.the-type Laws'.the-copy Exit.yes;
+      val = Laws'3.val Question.the-type Laws.the-laws;
+      tells = Laws'3.tells Question.the-type Laws.the-laws;
+      still =
+          Laws'3.still Question.the-type Laws.the-copy Exit.yes;
       row = Rows'.whole (Declared.row Question.the-type);
       rd = λ x. x;
       mk = λ x. x;
     } λ M 𝓤 H A W. record {
       copies =
-          Laws'3.copy Question.the-type Laws'.the-copy 𝓤 H A W;
-      lawful = Laws'3.lawful Question.the-type Laws'.the-laws 𝓤 H A W tt;
-      makes = Laws'3.makes Question.the-type Laws'.the-plain
-          𝓤 H A;
+          Laws'3.copy Question.the-type Laws.the-copy 𝓤 H A W;
+      lawful = Laws'3.lawful Question.the-type Laws.the-laws 𝓤 H A W tt;
+      makes = Laws'3.makes Question.the-type Laws.the-plain 𝓤
+          H A;
       in-mem = Local.mem-whole 𝓤 H A W (Declared.row Question.the-type);
       of-mem = Local.whole-mem 𝓤 H A W (Declared.row Question.the-type);
     }) List.[]))))
@@ -179,20 +178,22 @@ abbrev pub r·0 : Kinds.RK 2
 r·0 = Value.rVal record {
   ty = Declared.row Answer.the-type;
   one = Path'.refl;
-  val = Laws'3.val Answer.the-type Laws.the-laws;
-  tells = Laws'3.tells Answer.the-type Laws.the-laws;
-  still = Laws'3.still Answer.the-type Laws.the-copy Exit.yes;
+  val = Laws'3.val Answer.the-type Laws''.the-laws;
+  tells = Laws'3.tells Answer.the-type
+      Laws''.the-laws;
+  still = Laws'3.still Answer.the-type Laws''.the-copy Exit.yes;
   row = Rows'.whole (Declared.row Answer.the-type);
   rd = λ x. x;
   mk = λ x. x;
-} λ M 𝓤 H A W. record {
-  copies =
-      Laws'3.copy Answer.the-type Laws.the-copy 𝓤 H A W;
-  lawful = Laws'3.lawful Answer.the-type Laws.the-laws 𝓤 H A W tt;
-  makes = Laws'3.makes Answer.the-type Laws.the-plain 𝓤 H A;
-  in-mem = Local.mem-whole 𝓤 H A W (Declared.row Answer.the-type);
-  of-mem = Local.whole-mem 𝓤 H A W (Declared.row Answer.the-type);
-}
+} λ M 𝓤 H A W.
+    record {
+      copies = Laws'3.copy Answer.the-type Laws''.the-copy 𝓤 H A W;
+      lawful = Laws'3.lawful Answer.the-type Laws''.the-laws 𝓤 H A W tt;
+      makes = Laws'3.makes Answer.the-type
+          Laws''.the-plain 𝓤 H A;
+      in-mem = Local.mem-whole 𝓤 H A W (Declared.row Answer.the-type);
+      of-mem = Local.whole-mem 𝓤 H A W (Declared.row Answer.the-type);
+    }
 
 abbrev pub hs : List.List Syntax.Home
 hs = List._∷_ Syntax.valueLocal (List._∷_ Syntax.valueLocal (List._∷_ Syntax.valueLocal (List._∷_ Syntax.valueLocal (List._∷_ Syntax.valueLocal (List._∷_ Syntax.memorySlot
@@ -292,38 +293,37 @@ abbrev pub t0 : List.List Row.Entry
 t0 = List._∷_ (
   0,
   Rows'.any-gone (Syntax.tyEnum (List._∷_ 103 (List._∷_ 114 (List._∷_ 101 (List._∷_ 101 (List._∷_ 110 (List._∷_ 119 (List._∷_ 97 (List._∷_ 108 (List._∷_ 100
-      (List._∷_ 95 (List._∷_ 107 (List._∷_ 104 (List._∷_ 97 (List._∷_ 110 (List._∷_ 110 (List._∷_ 97 (List._∷_ 58 (List._∷_ 58 (List._∷_ 65 (List._∷_ 110 (List._∷_ 115 (List._∷_ 119
-      (List._∷_ 101 (List._∷_ 114 List.[])))))))))))))))))))))))) (Syntax.ttcons (Syntax.tcons (Syntax.tyInt Syntax.w32) Syntax.tnil) (Syntax.ttcons (Syntax.tcons (Syntax.tyEnum
-      (List._∷_ 114 (List._∷_ 101 (List._∷_ 102 (List._∷_ 117 (List._∷_ 115 (List._∷_ 97 (List._∷_ 108 (List._∷_ 58 (List._∷_ 58 (List._∷_ 82 (List._∷_ 101 (List._∷_ 102 (List._∷_
-      117 (List._∷_ 115 (List._∷_ 97 (List._∷_ 108 List.[])))))))))))))))) (Syntax.ttcons Syntax.tnil (Syntax.ttcons Syntax.tnil (Syntax.ttcons Syntax.tnil (Syntax.ttcons Syntax.tnil
+      (List._∷_ 95 (List._∷_ 107 (List._∷_ 104 (List._∷_ 97 (List._∷_ 110 (List._∷_ 110 (List._∷_ 97 (List._∷_ 95 (List._∷_ 116 (List._∷_ 111 (List._∷_ 108 (List._∷_ 100 (List._∷_ 58
+      (List._∷_ 58 (List._∷_ 65 (List._∷_ 110 (List._∷_ 115 (List._∷_ 119 (List._∷_ 101 (List._∷_ 114 List.[]))))))))))))))))))))))))))))) (Syntax.ttcons (Syntax.tcons (Syntax.tyInt
+      Syntax.w32) Syntax.tnil) (Syntax.ttcons (Syntax.tcons (Syntax.tyEnum (List._∷_ 114 (List._∷_ 101 (List._∷_ 102 (List._∷_ 117 (List._∷_ 115 (List._∷_ 97 (List._∷_ 108 (List._∷_
+      58 (List._∷_ 58 (List._∷_ 82 (List._∷_ 101 (List._∷_ 102 (List._∷_ 117 (List._∷_ 115 (List._∷_ 97 (List._∷_ 108 List.[])))))))))))))))) (Syntax.ttcons Syntax.tnil
       (Syntax.ttcons Syntax.tnil (Syntax.ttcons Syntax.tnil (Syntax.ttcons Syntax.tnil (Syntax.ttcons Syntax.tnil (Syntax.ttcons Syntax.tnil (Syntax.ttcons Syntax.tnil (Syntax.ttcons
-      Syntax.tnil (Syntax.ttcons Syntax.tnil Syntax.ttnil))))))))))))) Syntax.tnil) Syntax.ttnil))),
-) (List._∷_ (1, Rows'.whole (Declared'.row Stream.the-type)) (List._∷_ (
-  2,
-  Rows'.sslice Of.R (Syntax.tyRef (Syntax.named 0) Syntax.imm Of.tyBy) 0,
-) (List._∷_ (3, Rows'.sc-here (Row.sInt Syntax.w64)) (List._∷_ (
-  4,
-  Rows'.whole (Declared.row
-      Question.the-type),
-) (List._∷_ (5, Rows'.any-gone (Syntax.tyArray (Syntax.tyArray (Syntax.tyInt Syntax.w32) 3) 256)) (List._∷_ (
-  6,
-  Rows'.any-gone (Syntax.tyArray
-      (Syntax.tyArray (Syntax.tyInt Syntax.w32) 3) 4096),
-) (List._∷_ (7, Rows'.any-gone Syntax.tyBool) (List._∷_ (8, Rows'.any-gone (Syntax.tyArray (Syntax.tyInt Syntax.w32) 3))
-    (List._∷_ (9, Rows'.any-gone (Syntax.tyRef Syntax.erased Syntax.mut (Syntax.tyArray (Syntax.tyArray (Syntax.tyInt Syntax.w32) 3) 256))) (List._∷_ (
-      10,
-      Rows'.any-gone
-          (Syntax.tyStruct (List._∷_ 38 (List._∷_ 91 (List._∷_ 93 List.[]))) (Syntax.tcons (Syntax.tyRef Syntax.erased Syntax.mut (Syntax.tyArray (Syntax.tyInt Syntax.w32) 3))
-          (Syntax.tcons (Syntax.tyInt Syntax.w64) Syntax.tnil))),
-    ) (List._∷_ (11, Rows'.any-gone (Syntax.tyArray (Syntax.tyInt Syntax.w32) 3)) (List._∷_ (
-      12,
-      Rows'.any-gone
-          (Syntax.tyRef Syntax.erased Syntax.mut (Syntax.tyArray (Syntax.tyArray (Syntax.tyInt Syntax.w32) 3) 4096)),
+      Syntax.tnil (Syntax.ttcons Syntax.tnil (Syntax.ttcons Syntax.tnil (Syntax.ttcons Syntax.tnil (Syntax.ttcons Syntax.tnil Syntax.ttnil))))))))))))) Syntax.tnil) Syntax.ttnil))),
+) (List._∷_ (1, Rows'.whole (Declared'.row Stream.the-type)) (List._∷_ (2, Rows'.sslice Of.R (Syntax.tyRef (Syntax.named 0) Syntax.imm Of.tyBy) 0) (List._∷_ (
+  3,
+  Rows'.sc-here (Row.sInt Syntax.w64),
+) (List._∷_ (4, Rows'.whole (Declared.row Question.the-type)) (List._∷_ (
+  5,
+  Rows'.any-gone (Syntax.tyArray (Syntax.tyArray (Syntax.tyInt
+      Syntax.w32) 3) 256),
+) (List._∷_ (6, Rows'.any-gone (Syntax.tyArray (Syntax.tyArray (Syntax.tyInt Syntax.w32) 3) 4096)) (List._∷_ (7, Rows'.any-gone Syntax.tyBool) (List._∷_
+    (8, Rows'.any-gone (Syntax.tyArray (Syntax.tyInt Syntax.w32) 3)) (List._∷_ (
+      9,
+      Rows'.any-gone (Syntax.tyRef Syntax.erased Syntax.mut (Syntax.tyArray (Syntax.tyArray
+          (Syntax.tyInt Syntax.w32) 3) 256)),
     ) (List._∷_ (
+      10,
+      Rows'.any-gone (Syntax.tyStruct (List._∷_ 38 (List._∷_ 91 (List._∷_ 93 List.[]))) (Syntax.tcons (Syntax.tyRef
+          Syntax.erased Syntax.mut (Syntax.tyArray (Syntax.tyInt Syntax.w32) 3)) (Syntax.tcons (Syntax.tyInt Syntax.w64) Syntax.tnil))),
+    ) (List._∷_ (
+      11,
+      Rows'.any-gone (Syntax.tyArray
+          (Syntax.tyInt Syntax.w32) 3),
+    ) (List._∷_ (12, Rows'.any-gone (Syntax.tyRef Syntax.erased Syntax.mut (Syntax.tyArray (Syntax.tyArray (Syntax.tyInt Syntax.w32) 3) 4096)))
+    (List._∷_ (
       13,
-      Rows'.any-gone (Syntax.tyStruct (List._∷_ 38
-          (List._∷_ 91 (List._∷_ 93 List.[]))) (Syntax.tcons (Syntax.tyRef Syntax.erased Syntax.mut (Syntax.tyArray (Syntax.tyInt Syntax.w32) 3)) (Syntax.tcons (Syntax.tyInt Syntax.w64)
-          Syntax.tnil))),
+      Rows'.any-gone (Syntax.tyStruct (List._∷_ 38 (List._∷_ 91 (List._∷_ 93 List.[]))) (Syntax.tcons (Syntax.tyRef Syntax.erased Syntax.mut (Syntax.tyArray
+          (Syntax.tyInt Syntax.w32) 3)) (Syntax.tcons (Syntax.tyInt Syntax.w64) Syntax.tnil))),
     ) List.[])))))))))))))
 
 abbrev pub t1 : List.List Row.Entry
@@ -373,314 +373,308 @@ abbrev pub t2 : List.List Row.Entry
 t2 = List._∷_ (
   0,
   Rows'.any-gone (Syntax.tyEnum (List._∷_ 103 (List._∷_ 114 (List._∷_ 101 (List._∷_ 101 (List._∷_ 110 (List._∷_ 119 (List._∷_ 97 (List._∷_ 108 (List._∷_ 100
-      (List._∷_ 95 (List._∷_ 107 (List._∷_ 104 (List._∷_ 97 (List._∷_ 110 (List._∷_ 110 (List._∷_ 97 (List._∷_ 58 (List._∷_ 58 (List._∷_ 65 (List._∷_ 110 (List._∷_ 115 (List._∷_ 119
-      (List._∷_ 101 (List._∷_ 114 List.[])))))))))))))))))))))))) (Syntax.ttcons (Syntax.tcons (Syntax.tyInt Syntax.w32) Syntax.tnil) (Syntax.ttcons (Syntax.tcons (Syntax.tyEnum
-      (List._∷_ 114 (List._∷_ 101 (List._∷_ 102 (List._∷_ 117 (List._∷_ 115 (List._∷_ 97 (List._∷_ 108 (List._∷_ 58 (List._∷_ 58 (List._∷_ 82 (List._∷_ 101 (List._∷_ 102 (List._∷_
-      117 (List._∷_ 115 (List._∷_ 97 (List._∷_ 108 List.[])))))))))))))))) (Syntax.ttcons Syntax.tnil (Syntax.ttcons Syntax.tnil (Syntax.ttcons Syntax.tnil (Syntax.ttcons Syntax.tnil
+      (List._∷_ 95 (List._∷_ 107 (List._∷_ 104 (List._∷_ 97 (List._∷_ 110 (List._∷_ 110 (List._∷_ 97 (List._∷_ 95 (List._∷_ 116 (List._∷_ 111 (List._∷_ 108 (List._∷_ 100 (List._∷_ 58
+      (List._∷_ 58 (List._∷_ 65 (List._∷_ 110 (List._∷_ 115 (List._∷_ 119 (List._∷_ 101 (List._∷_ 114 List.[]))))))))))))))))))))))))))))) (Syntax.ttcons (Syntax.tcons (Syntax.tyInt
+      Syntax.w32) Syntax.tnil) (Syntax.ttcons (Syntax.tcons (Syntax.tyEnum (List._∷_ 114 (List._∷_ 101 (List._∷_ 102 (List._∷_ 117 (List._∷_ 115 (List._∷_ 97 (List._∷_ 108 (List._∷_
+      58 (List._∷_ 58 (List._∷_ 82 (List._∷_ 101 (List._∷_ 102 (List._∷_ 117 (List._∷_ 115 (List._∷_ 97 (List._∷_ 108 List.[])))))))))))))))) (Syntax.ttcons Syntax.tnil
       (Syntax.ttcons Syntax.tnil (Syntax.ttcons Syntax.tnil (Syntax.ttcons Syntax.tnil (Syntax.ttcons Syntax.tnil (Syntax.ttcons Syntax.tnil (Syntax.ttcons Syntax.tnil (Syntax.ttcons
-      Syntax.tnil (Syntax.ttcons Syntax.tnil Syntax.ttnil))))))))))))) Syntax.tnil) Syntax.ttnil))),
-) (List._∷_ (1, Rows'.whole (Declared'.row Stream.the-type)) (List._∷_ (
-  2,
-  Rows'.sslice Of.R (Syntax.tyRef (Syntax.named 0) Syntax.imm Of.tyBy) 0,
-) (List._∷_ (3, Rows'.sc-here (Row.sInt Syntax.w64)) (List._∷_ (
-  4,
-  Rows'.whole (Declared.row
-      Question.the-type),
-) (List._∷_ (5, Rows'.any-gone (Syntax.tyArray (Syntax.tyArray (Syntax.tyInt Syntax.w32) 3) 256)) (List._∷_ (
-  6,
+      Syntax.tnil (Syntax.ttcons Syntax.tnil (Syntax.ttcons Syntax.tnil (Syntax.ttcons Syntax.tnil (Syntax.ttcons Syntax.tnil Syntax.ttnil))))))))))))) Syntax.tnil) Syntax.ttnil))),
+) (List._∷_ (1, Rows'.whole (Declared'.row Stream.the-type)) (List._∷_ (2, Rows'.sslice Of.R (Syntax.tyRef (Syntax.named 0) Syntax.imm Of.tyBy) 0) (List._∷_ (
+  3,
+  Rows'.sc-here (Row.sInt Syntax.w64),
+) (List._∷_ (4, Rows'.whole (Declared.row Question.the-type)) (List._∷_ (
+  5,
+  Rows'.any-gone (Syntax.tyArray (Syntax.tyArray (Syntax.tyInt
+      Syntax.w32) 3) 256),
+) (List._∷_ (6, Rows'.any-gone (Syntax.tyArray (Syntax.tyArray (Syntax.tyInt Syntax.w32) 3) 4096)) (List._∷_ (7, Rows'.sc-here Row.sBool) (List._∷_ (
+  8,
+  Rows'.any-gone (Syntax.tyArray (Syntax.tyInt Syntax.w32) 3),
+) (List._∷_ (
+  9,
+  Rows'.any-gone (Syntax.tyRef Syntax.erased Syntax.mut (Syntax.tyArray (Syntax.tyArray
+      (Syntax.tyInt Syntax.w32) 3) 256)),
+) (List._∷_ (
+  10,
+  Rows'.any-gone (Syntax.tyStruct (List._∷_ 38 (List._∷_ 91 (List._∷_ 93 List.[]))) (Syntax.tcons (Syntax.tyRef
+      Syntax.erased Syntax.mut (Syntax.tyArray (Syntax.tyInt Syntax.w32) 3)) (Syntax.tcons (Syntax.tyInt Syntax.w64) Syntax.tnil))),
+) (List._∷_ (
+  11,
   Rows'.any-gone (Syntax.tyArray
-      (Syntax.tyArray (Syntax.tyInt Syntax.w32) 3) 4096),
-) (List._∷_ (7, Rows'.sc-here Row.sBool) (List._∷_ (8, Rows'.any-gone (Syntax.tyArray (Syntax.tyInt Syntax.w32) 3))
-    (List._∷_ (9, Rows'.any-gone (Syntax.tyRef Syntax.erased Syntax.mut (Syntax.tyArray (Syntax.tyArray (Syntax.tyInt Syntax.w32) 3) 256))) (List._∷_ (
-      10,
-      Rows'.any-gone
-          (Syntax.tyStruct (List._∷_ 38 (List._∷_ 91 (List._∷_ 93 List.[]))) (Syntax.tcons (Syntax.tyRef Syntax.erased Syntax.mut (Syntax.tyArray (Syntax.tyInt Syntax.w32) 3))
-          (Syntax.tcons (Syntax.tyInt Syntax.w64) Syntax.tnil))),
-    ) (List._∷_ (11, Rows'.any-gone (Syntax.tyArray (Syntax.tyInt Syntax.w32) 3)) (List._∷_ (
-      12,
-      Rows'.any-gone
-          (Syntax.tyRef Syntax.erased Syntax.mut (Syntax.tyArray (Syntax.tyArray (Syntax.tyInt Syntax.w32) 3) 4096)),
-    ) (List._∷_ (
+      (Syntax.tyInt Syntax.w32) 3),
+) (List._∷_ (12, Rows'.any-gone (Syntax.tyRef Syntax.erased Syntax.mut (Syntax.tyArray (Syntax.tyArray (Syntax.tyInt Syntax.w32) 3) 4096)))
+    (List._∷_ (
       13,
-      Rows'.any-gone (Syntax.tyStruct (List._∷_ 38
-          (List._∷_ 91 (List._∷_ 93 List.[]))) (Syntax.tcons (Syntax.tyRef Syntax.erased Syntax.mut (Syntax.tyArray (Syntax.tyInt Syntax.w32) 3)) (Syntax.tcons (Syntax.tyInt Syntax.w64)
-          Syntax.tnil))),
+      Rows'.any-gone (Syntax.tyStruct (List._∷_ 38 (List._∷_ 91 (List._∷_ 93 List.[]))) (Syntax.tcons (Syntax.tyRef Syntax.erased Syntax.mut (Syntax.tyArray
+          (Syntax.tyInt Syntax.w32) 3)) (Syntax.tcons (Syntax.tyInt Syntax.w64) Syntax.tnil))),
     ) List.[])))))))))))))
 
 abbrev pub t3 : List.List Row.Entry
 t3 = List._∷_ (
   0,
   Rows'.any-gone (Syntax.tyEnum (List._∷_ 103 (List._∷_ 114 (List._∷_ 101 (List._∷_ 101 (List._∷_ 110 (List._∷_ 119 (List._∷_ 97 (List._∷_ 108 (List._∷_ 100
-      (List._∷_ 95 (List._∷_ 107 (List._∷_ 104 (List._∷_ 97 (List._∷_ 110 (List._∷_ 110 (List._∷_ 97 (List._∷_ 58 (List._∷_ 58 (List._∷_ 65 (List._∷_ 110 (List._∷_ 115 (List._∷_ 119
-      (List._∷_ 101 (List._∷_ 114 List.[])))))))))))))))))))))))) (Syntax.ttcons (Syntax.tcons (Syntax.tyInt Syntax.w32) Syntax.tnil) (Syntax.ttcons (Syntax.tcons (Syntax.tyEnum
-      (List._∷_ 114 (List._∷_ 101 (List._∷_ 102 (List._∷_ 117 (List._∷_ 115 (List._∷_ 97 (List._∷_ 108 (List._∷_ 58 (List._∷_ 58 (List._∷_ 82 (List._∷_ 101 (List._∷_ 102 (List._∷_
-      117 (List._∷_ 115 (List._∷_ 97 (List._∷_ 108 List.[])))))))))))))))) (Syntax.ttcons Syntax.tnil (Syntax.ttcons Syntax.tnil (Syntax.ttcons Syntax.tnil (Syntax.ttcons Syntax.tnil
+      (List._∷_ 95 (List._∷_ 107 (List._∷_ 104 (List._∷_ 97 (List._∷_ 110 (List._∷_ 110 (List._∷_ 97 (List._∷_ 95 (List._∷_ 116 (List._∷_ 111 (List._∷_ 108 (List._∷_ 100 (List._∷_ 58
+      (List._∷_ 58 (List._∷_ 65 (List._∷_ 110 (List._∷_ 115 (List._∷_ 119 (List._∷_ 101 (List._∷_ 114 List.[]))))))))))))))))))))))))))))) (Syntax.ttcons (Syntax.tcons (Syntax.tyInt
+      Syntax.w32) Syntax.tnil) (Syntax.ttcons (Syntax.tcons (Syntax.tyEnum (List._∷_ 114 (List._∷_ 101 (List._∷_ 102 (List._∷_ 117 (List._∷_ 115 (List._∷_ 97 (List._∷_ 108 (List._∷_
+      58 (List._∷_ 58 (List._∷_ 82 (List._∷_ 101 (List._∷_ 102 (List._∷_ 117 (List._∷_ 115 (List._∷_ 97 (List._∷_ 108 List.[])))))))))))))))) (Syntax.ttcons Syntax.tnil
       (Syntax.ttcons Syntax.tnil (Syntax.ttcons Syntax.tnil (Syntax.ttcons Syntax.tnil (Syntax.ttcons Syntax.tnil (Syntax.ttcons Syntax.tnil (Syntax.ttcons Syntax.tnil (Syntax.ttcons
-      Syntax.tnil (Syntax.ttcons Syntax.tnil Syntax.ttnil))))))))))))) Syntax.tnil) Syntax.ttnil))),
-) (List._∷_ (1, Rows'.whole (Declared'.row Stream.the-type)) (List._∷_ (
-  2,
-  Rows'.sslice Of.R (Syntax.tyRef (Syntax.named 0) Syntax.imm Of.tyBy) 0,
-) (List._∷_ (3, Rows'.sc-here (Row.sInt Syntax.w64)) (List._∷_ (
-  4,
-  Rows'.whole (Declared.row
-      Question.the-type),
-) (List._∷_ (5, Rows'.any-gone (Syntax.tyArray (Syntax.tyArray (Syntax.tyInt Syntax.w32) 3) 256)) (List._∷_ (
-  6,
-  Rows'.any-gone (Syntax.tyArray
-      (Syntax.tyArray (Syntax.tyInt Syntax.w32) 3) 4096),
-) (List._∷_ (7, Rows'.any-gone Syntax.tyBool) (List._∷_ (
-  8,
-  Rows'.whole (Array'.Array (Referent.rtF (Referent.fInt
-      Syntax.w32)) 3),
-) (List._∷_ (9, Rows'.any-gone (Syntax.tyRef Syntax.erased Syntax.mut (Syntax.tyArray (Syntax.tyArray (Syntax.tyInt Syntax.w32) 3) 256))) (List._∷_ (
-  10,
-  Rows'.any-gone (Syntax.tyStruct (List._∷_ 38 (List._∷_ 91 (List._∷_ 93 List.[]))) (Syntax.tcons (Syntax.tyRef Syntax.erased Syntax.mut (Syntax.tyArray (Syntax.tyInt Syntax.w32)
-      3)) (Syntax.tcons (Syntax.tyInt Syntax.w64) Syntax.tnil))),
-) (List._∷_ (11, Rows'.any-gone (Syntax.tyArray (Syntax.tyInt Syntax.w32) 3)) (List._∷_ (
-  12,
-  Rows'.any-gone
-      (Syntax.tyRef Syntax.erased Syntax.mut (Syntax.tyArray (Syntax.tyArray (Syntax.tyInt Syntax.w32) 3) 4096)),
-) (List._∷_ (
-  13,
-  Rows'.any-gone (Syntax.tyStruct (List._∷_ 38
-      (List._∷_ 91 (List._∷_ 93 List.[]))) (Syntax.tcons (Syntax.tyRef Syntax.erased Syntax.mut (Syntax.tyArray (Syntax.tyInt Syntax.w32) 3)) (Syntax.tcons (Syntax.tyInt Syntax.w64)
-      Syntax.tnil))),
-) List.[])))))))))))))
+      Syntax.tnil (Syntax.ttcons Syntax.tnil (Syntax.ttcons Syntax.tnil (Syntax.ttcons Syntax.tnil (Syntax.ttcons Syntax.tnil Syntax.ttnil))))))))))))) Syntax.tnil) Syntax.ttnil))),
+) (List._∷_ (1, Rows'.whole (Declared'.row Stream.the-type)) (List._∷_ (2, Rows'.sslice Of.R (Syntax.tyRef (Syntax.named 0) Syntax.imm Of.tyBy) 0) (List._∷_ (
+  3,
+  Rows'.sc-here (Row.sInt Syntax.w64),
+) (List._∷_ (4, Rows'.whole (Declared.row Question.the-type)) (List._∷_ (
+  5,
+  Rows'.any-gone (Syntax.tyArray (Syntax.tyArray (Syntax.tyInt
+      Syntax.w32) 3) 256),
+) (List._∷_ (6, Rows'.any-gone (Syntax.tyArray (Syntax.tyArray (Syntax.tyInt Syntax.w32) 3) 4096)) (List._∷_ (7, Rows'.any-gone Syntax.tyBool) (List._∷_
+    (8, Rows'.whole (Array'.Array (Referent.rtF (Referent.fInt Syntax.w32)) 3)) (List._∷_ (
+      9,
+      Rows'.any-gone (Syntax.tyRef Syntax.erased Syntax.mut (Syntax.tyArray
+          (Syntax.tyArray (Syntax.tyInt Syntax.w32) 3) 256)),
+    ) (List._∷_ (
+      10,
+      Rows'.any-gone (Syntax.tyStruct (List._∷_ 38 (List._∷_ 91 (List._∷_ 93 List.[]))) (Syntax.tcons
+          (Syntax.tyRef Syntax.erased Syntax.mut (Syntax.tyArray (Syntax.tyInt Syntax.w32) 3)) (Syntax.tcons (Syntax.tyInt Syntax.w64) Syntax.tnil))),
+    ) (List._∷_ (
+      11,
+      Rows'.any-gone
+          (Syntax.tyArray (Syntax.tyInt Syntax.w32) 3),
+    ) (List._∷_ (
+      12,
+      Rows'.any-gone (Syntax.tyRef Syntax.erased Syntax.mut (Syntax.tyArray (Syntax.tyArray (Syntax.tyInt Syntax.w32) 3)
+          4096)),
+    ) (List._∷_ (
+      13,
+      Rows'.any-gone (Syntax.tyStruct (List._∷_ 38 (List._∷_ 91 (List._∷_ 93 List.[]))) (Syntax.tcons (Syntax.tyRef Syntax.erased Syntax.mut (Syntax.tyArray
+          (Syntax.tyInt Syntax.w32) 3)) (Syntax.tcons (Syntax.tyInt Syntax.w64) Syntax.tnil))),
+    ) List.[])))))))))))))
 
 abbrev pub t4 : List.List Row.Entry
 t4 = List._∷_ (
   0,
   Rows'.any-gone (Syntax.tyEnum (List._∷_ 103 (List._∷_ 114 (List._∷_ 101 (List._∷_ 101 (List._∷_ 110 (List._∷_ 119 (List._∷_ 97 (List._∷_ 108 (List._∷_ 100
-      (List._∷_ 95 (List._∷_ 107 (List._∷_ 104 (List._∷_ 97 (List._∷_ 110 (List._∷_ 110 (List._∷_ 97 (List._∷_ 58 (List._∷_ 58 (List._∷_ 65 (List._∷_ 110 (List._∷_ 115 (List._∷_ 119
-      (List._∷_ 101 (List._∷_ 114 List.[])))))))))))))))))))))))) (Syntax.ttcons (Syntax.tcons (Syntax.tyInt Syntax.w32) Syntax.tnil) (Syntax.ttcons (Syntax.tcons (Syntax.tyEnum
-      (List._∷_ 114 (List._∷_ 101 (List._∷_ 102 (List._∷_ 117 (List._∷_ 115 (List._∷_ 97 (List._∷_ 108 (List._∷_ 58 (List._∷_ 58 (List._∷_ 82 (List._∷_ 101 (List._∷_ 102 (List._∷_
-      117 (List._∷_ 115 (List._∷_ 97 (List._∷_ 108 List.[])))))))))))))))) (Syntax.ttcons Syntax.tnil (Syntax.ttcons Syntax.tnil (Syntax.ttcons Syntax.tnil (Syntax.ttcons Syntax.tnil
+      (List._∷_ 95 (List._∷_ 107 (List._∷_ 104 (List._∷_ 97 (List._∷_ 110 (List._∷_ 110 (List._∷_ 97 (List._∷_ 95 (List._∷_ 116 (List._∷_ 111 (List._∷_ 108 (List._∷_ 100 (List._∷_ 58
+      (List._∷_ 58 (List._∷_ 65 (List._∷_ 110 (List._∷_ 115 (List._∷_ 119 (List._∷_ 101 (List._∷_ 114 List.[]))))))))))))))))))))))))))))) (Syntax.ttcons (Syntax.tcons (Syntax.tyInt
+      Syntax.w32) Syntax.tnil) (Syntax.ttcons (Syntax.tcons (Syntax.tyEnum (List._∷_ 114 (List._∷_ 101 (List._∷_ 102 (List._∷_ 117 (List._∷_ 115 (List._∷_ 97 (List._∷_ 108 (List._∷_
+      58 (List._∷_ 58 (List._∷_ 82 (List._∷_ 101 (List._∷_ 102 (List._∷_ 117 (List._∷_ 115 (List._∷_ 97 (List._∷_ 108 List.[])))))))))))))))) (Syntax.ttcons Syntax.tnil
       (Syntax.ttcons Syntax.tnil (Syntax.ttcons Syntax.tnil (Syntax.ttcons Syntax.tnil (Syntax.ttcons Syntax.tnil (Syntax.ttcons Syntax.tnil (Syntax.ttcons Syntax.tnil (Syntax.ttcons
-      Syntax.tnil (Syntax.ttcons Syntax.tnil Syntax.ttnil))))))))))))) Syntax.tnil) Syntax.ttnil))),
-) (List._∷_ (1, Rows'.whole (Declared'.row Stream.the-type)) (List._∷_ (
-  2,
-  Rows'.sslice Of.R (Syntax.tyRef (Syntax.named 0) Syntax.imm Of.tyBy) 0,
-) (List._∷_ (3, Rows'.sc-here (Row.sInt Syntax.w64)) (List._∷_ (
-  4,
-  Rows'.whole (Declared.row
-      Question.the-type),
-) (List._∷_ (5, Rows'.any-gone (Syntax.tyArray (Syntax.tyArray (Syntax.tyInt Syntax.w32) 3) 256)) (List._∷_ (
-  6,
-  Rows'.any-gone (Syntax.tyArray
-      (Syntax.tyArray (Syntax.tyInt Syntax.w32) 3) 4096),
-) (List._∷_ (7, Rows'.any-gone Syntax.tyBool) (List._∷_ (8, Rows.arrF (Referent.rtF (Referent.fInt Syntax.w32)) 3 0)
-    (List._∷_ (9, Rows'.any-gone (Syntax.tyRef Syntax.erased Syntax.mut (Syntax.tyArray (Syntax.tyArray (Syntax.tyInt Syntax.w32) 3) 256))) (List._∷_ (
-      10,
-      Rows'.any-gone
-          (Syntax.tyStruct (List._∷_ 38 (List._∷_ 91 (List._∷_ 93 List.[]))) (Syntax.tcons (Syntax.tyRef Syntax.erased Syntax.mut (Syntax.tyArray (Syntax.tyInt Syntax.w32) 3))
-          (Syntax.tcons (Syntax.tyInt Syntax.w64) Syntax.tnil))),
-    ) (List._∷_ (11, Rows'.any-gone (Syntax.tyArray (Syntax.tyInt Syntax.w32) 3)) (List._∷_ (
-      12,
-      Rows'.any-gone
-          (Syntax.tyRef Syntax.erased Syntax.mut (Syntax.tyArray (Syntax.tyArray (Syntax.tyInt Syntax.w32) 3) 4096)),
+      Syntax.tnil (Syntax.ttcons Syntax.tnil (Syntax.ttcons Syntax.tnil (Syntax.ttcons Syntax.tnil (Syntax.ttcons Syntax.tnil Syntax.ttnil))))))))))))) Syntax.tnil) Syntax.ttnil))),
+) (List._∷_ (1, Rows'.whole (Declared'.row Stream.the-type)) (List._∷_ (2, Rows'.sslice Of.R (Syntax.tyRef (Syntax.named 0) Syntax.imm Of.tyBy) 0) (List._∷_ (
+  3,
+  Rows'.sc-here (Row.sInt Syntax.w64),
+) (List._∷_ (4, Rows'.whole (Declared.row Question.the-type)) (List._∷_ (
+  5,
+  Rows'.any-gone (Syntax.tyArray (Syntax.tyArray (Syntax.tyInt
+      Syntax.w32) 3) 256),
+) (List._∷_ (6, Rows'.any-gone (Syntax.tyArray (Syntax.tyArray (Syntax.tyInt Syntax.w32) 3) 4096)) (List._∷_ (7, Rows'.any-gone Syntax.tyBool) (List._∷_
+    (8, Rows.arrF (Referent.rtF (Referent.fInt Syntax.w32)) 3 0) (List._∷_ (
+      9,
+      Rows'.any-gone (Syntax.tyRef Syntax.erased Syntax.mut (Syntax.tyArray (Syntax.tyArray
+          (Syntax.tyInt Syntax.w32) 3) 256)),
     ) (List._∷_ (
+      10,
+      Rows'.any-gone (Syntax.tyStruct (List._∷_ 38 (List._∷_ 91 (List._∷_ 93 List.[]))) (Syntax.tcons (Syntax.tyRef
+          Syntax.erased Syntax.mut (Syntax.tyArray (Syntax.tyInt Syntax.w32) 3)) (Syntax.tcons (Syntax.tyInt Syntax.w64) Syntax.tnil))),
+    ) (List._∷_ (
+      11,
+      Rows'.any-gone (Syntax.tyArray
+          (Syntax.tyInt Syntax.w32) 3),
+    ) (List._∷_ (12, Rows'.any-gone (Syntax.tyRef Syntax.erased Syntax.mut (Syntax.tyArray (Syntax.tyArray (Syntax.tyInt Syntax.w32) 3) 4096)))
+    (List._∷_ (
       13,
-      Rows'.any-gone (Syntax.tyStruct (List._∷_ 38
-          (List._∷_ 91 (List._∷_ 93 List.[]))) (Syntax.tcons (Syntax.tyRef Syntax.erased Syntax.mut (Syntax.tyArray (Syntax.tyInt Syntax.w32) 3)) (Syntax.tcons (Syntax.tyInt Syntax.w64)
-          Syntax.tnil))),
+      Rows'.any-gone (Syntax.tyStruct (List._∷_ 38 (List._∷_ 91 (List._∷_ 93 List.[]))) (Syntax.tcons (Syntax.tyRef Syntax.erased Syntax.mut (Syntax.tyArray
+          (Syntax.tyInt Syntax.w32) 3)) (Syntax.tcons (Syntax.tyInt Syntax.w64) Syntax.tnil))),
     ) List.[])))))))))))))
 
 abbrev pub t5 : List.List Row.Entry
 t5 = List._∷_ (
   0,
   Rows'.any-gone (Syntax.tyEnum (List._∷_ 103 (List._∷_ 114 (List._∷_ 101 (List._∷_ 101 (List._∷_ 110 (List._∷_ 119 (List._∷_ 97 (List._∷_ 108 (List._∷_ 100
-      (List._∷_ 95 (List._∷_ 107 (List._∷_ 104 (List._∷_ 97 (List._∷_ 110 (List._∷_ 110 (List._∷_ 97 (List._∷_ 58 (List._∷_ 58 (List._∷_ 65 (List._∷_ 110 (List._∷_ 115 (List._∷_ 119
-      (List._∷_ 101 (List._∷_ 114 List.[])))))))))))))))))))))))) (Syntax.ttcons (Syntax.tcons (Syntax.tyInt Syntax.w32) Syntax.tnil) (Syntax.ttcons (Syntax.tcons (Syntax.tyEnum
-      (List._∷_ 114 (List._∷_ 101 (List._∷_ 102 (List._∷_ 117 (List._∷_ 115 (List._∷_ 97 (List._∷_ 108 (List._∷_ 58 (List._∷_ 58 (List._∷_ 82 (List._∷_ 101 (List._∷_ 102 (List._∷_
-      117 (List._∷_ 115 (List._∷_ 97 (List._∷_ 108 List.[])))))))))))))))) (Syntax.ttcons Syntax.tnil (Syntax.ttcons Syntax.tnil (Syntax.ttcons Syntax.tnil (Syntax.ttcons Syntax.tnil
+      (List._∷_ 95 (List._∷_ 107 (List._∷_ 104 (List._∷_ 97 (List._∷_ 110 (List._∷_ 110 (List._∷_ 97 (List._∷_ 95 (List._∷_ 116 (List._∷_ 111 (List._∷_ 108 (List._∷_ 100 (List._∷_ 58
+      (List._∷_ 58 (List._∷_ 65 (List._∷_ 110 (List._∷_ 115 (List._∷_ 119 (List._∷_ 101 (List._∷_ 114 List.[]))))))))))))))))))))))))))))) (Syntax.ttcons (Syntax.tcons (Syntax.tyInt
+      Syntax.w32) Syntax.tnil) (Syntax.ttcons (Syntax.tcons (Syntax.tyEnum (List._∷_ 114 (List._∷_ 101 (List._∷_ 102 (List._∷_ 117 (List._∷_ 115 (List._∷_ 97 (List._∷_ 108 (List._∷_
+      58 (List._∷_ 58 (List._∷_ 82 (List._∷_ 101 (List._∷_ 102 (List._∷_ 117 (List._∷_ 115 (List._∷_ 97 (List._∷_ 108 List.[])))))))))))))))) (Syntax.ttcons Syntax.tnil
       (Syntax.ttcons Syntax.tnil (Syntax.ttcons Syntax.tnil (Syntax.ttcons Syntax.tnil (Syntax.ttcons Syntax.tnil (Syntax.ttcons Syntax.tnil (Syntax.ttcons Syntax.tnil (Syntax.ttcons
-      Syntax.tnil (Syntax.ttcons Syntax.tnil Syntax.ttnil))))))))))))) Syntax.tnil) Syntax.ttnil))),
-) (List._∷_ (1, Rows'.whole (Declared'.row Stream.the-type)) (List._∷_ (
-  2,
-  Rows'.sslice Of.R (Syntax.tyRef (Syntax.named 0) Syntax.imm Of.tyBy) 0,
-) (List._∷_ (3, Rows'.sc-here (Row.sInt Syntax.w64)) (List._∷_ (
-  4,
-  Rows'.whole (Declared.row
-      Question.the-type),
-) (List._∷_ (5, Rows'.whole (Array'.Array (Array'.Array (Referent.rtF (Referent.fInt Syntax.w32)) 3) 256)) (List._∷_ (
-  6,
-  Rows'.any-gone (Syntax.tyArray
-      (Syntax.tyArray (Syntax.tyInt Syntax.w32) 3) 4096),
-) (List._∷_ (7, Rows'.any-gone Syntax.tyBool) (List._∷_ (8, Rows.arrF (Referent.rtF (Referent.fInt Syntax.w32)) 3 0)
-    (List._∷_ (9, Rows'.any-gone (Syntax.tyRef Syntax.erased Syntax.mut (Syntax.tyArray (Syntax.tyArray (Syntax.tyInt Syntax.w32) 3) 256))) (List._∷_ (
-      10,
-      Rows'.any-gone
-          (Syntax.tyStruct (List._∷_ 38 (List._∷_ 91 (List._∷_ 93 List.[]))) (Syntax.tcons (Syntax.tyRef Syntax.erased Syntax.mut (Syntax.tyArray (Syntax.tyInt Syntax.w32) 3))
-          (Syntax.tcons (Syntax.tyInt Syntax.w64) Syntax.tnil))),
-    ) (List._∷_ (11, Rows'.any-gone (Syntax.tyArray (Syntax.tyInt Syntax.w32) 3)) (List._∷_ (
-      12,
-      Rows'.any-gone
-          (Syntax.tyRef Syntax.erased Syntax.mut (Syntax.tyArray (Syntax.tyArray (Syntax.tyInt Syntax.w32) 3) 4096)),
-    ) (List._∷_ (
-      13,
-      Rows'.any-gone (Syntax.tyStruct (List._∷_ 38
-          (List._∷_ 91 (List._∷_ 93 List.[]))) (Syntax.tcons (Syntax.tyRef Syntax.erased Syntax.mut (Syntax.tyArray (Syntax.tyInt Syntax.w32) 3)) (Syntax.tcons (Syntax.tyInt Syntax.w64)
-          Syntax.tnil))),
-    ) List.[])))))))))))))
+      Syntax.tnil (Syntax.ttcons Syntax.tnil (Syntax.ttcons Syntax.tnil (Syntax.ttcons Syntax.tnil (Syntax.ttcons Syntax.tnil Syntax.ttnil))))))))))))) Syntax.tnil) Syntax.ttnil))),
+) (List._∷_ (1, Rows'.whole (Declared'.row Stream.the-type)) (List._∷_ (2, Rows'.sslice Of.R (Syntax.tyRef (Syntax.named 0) Syntax.imm Of.tyBy) 0) (List._∷_ (
+  3,
+  Rows'.sc-here (Row.sInt Syntax.w64),
+) (List._∷_ (4, Rows'.whole (Declared.row Question.the-type)) (List._∷_ (
+  5,
+  Rows'.whole (Array'.Array (Array'.Array (Referent.rtF
+      (Referent.fInt Syntax.w32)) 3) 256),
+) (List._∷_ (6, Rows'.any-gone (Syntax.tyArray (Syntax.tyArray (Syntax.tyInt Syntax.w32) 3) 4096)) (List._∷_ (
+  7,
+  Rows'.any-gone
+      Syntax.tyBool,
+) (List._∷_ (8, Rows.arrF (Referent.rtF (Referent.fInt Syntax.w32)) 3 0) (List._∷_ (
+  9,
+  Rows'.any-gone (Syntax.tyRef Syntax.erased Syntax.mut (Syntax.tyArray
+      (Syntax.tyArray (Syntax.tyInt Syntax.w32) 3) 256)),
+) (List._∷_ (
+  10,
+  Rows'.any-gone (Syntax.tyStruct (List._∷_ 38 (List._∷_ 91 (List._∷_ 93 List.[]))) (Syntax.tcons
+      (Syntax.tyRef Syntax.erased Syntax.mut (Syntax.tyArray (Syntax.tyInt Syntax.w32) 3)) (Syntax.tcons (Syntax.tyInt Syntax.w64) Syntax.tnil))),
+) (List._∷_ (
+  11,
+  Rows'.any-gone
+      (Syntax.tyArray (Syntax.tyInt Syntax.w32) 3),
+) (List._∷_ (
+  12,
+  Rows'.any-gone (Syntax.tyRef Syntax.erased Syntax.mut (Syntax.tyArray (Syntax.tyArray (Syntax.tyInt Syntax.w32) 3)
+      4096)),
+) (List._∷_ (
+  13,
+  Rows'.any-gone (Syntax.tyStruct (List._∷_ 38 (List._∷_ 91 (List._∷_ 93 List.[]))) (Syntax.tcons (Syntax.tyRef Syntax.erased Syntax.mut (Syntax.tyArray
+      (Syntax.tyInt Syntax.w32) 3)) (Syntax.tcons (Syntax.tyInt Syntax.w64) Syntax.tnil))),
+) List.[])))))))))))))
 
 abbrev pub t6 : List.List Row.Entry
 t6 = List._∷_ (
   0,
   Rows'.any-gone (Syntax.tyEnum (List._∷_ 103 (List._∷_ 114 (List._∷_ 101 (List._∷_ 101 (List._∷_ 110 (List._∷_ 119 (List._∷_ 97 (List._∷_ 108 (List._∷_ 100
-      (List._∷_ 95 (List._∷_ 107 (List._∷_ 104 (List._∷_ 97 (List._∷_ 110 (List._∷_ 110 (List._∷_ 97 (List._∷_ 58 (List._∷_ 58 (List._∷_ 65 (List._∷_ 110 (List._∷_ 115 (List._∷_ 119
-      (List._∷_ 101 (List._∷_ 114 List.[])))))))))))))))))))))))) (Syntax.ttcons (Syntax.tcons (Syntax.tyInt Syntax.w32) Syntax.tnil) (Syntax.ttcons (Syntax.tcons (Syntax.tyEnum
-      (List._∷_ 114 (List._∷_ 101 (List._∷_ 102 (List._∷_ 117 (List._∷_ 115 (List._∷_ 97 (List._∷_ 108 (List._∷_ 58 (List._∷_ 58 (List._∷_ 82 (List._∷_ 101 (List._∷_ 102 (List._∷_
-      117 (List._∷_ 115 (List._∷_ 97 (List._∷_ 108 List.[])))))))))))))))) (Syntax.ttcons Syntax.tnil (Syntax.ttcons Syntax.tnil (Syntax.ttcons Syntax.tnil (Syntax.ttcons Syntax.tnil
+      (List._∷_ 95 (List._∷_ 107 (List._∷_ 104 (List._∷_ 97 (List._∷_ 110 (List._∷_ 110 (List._∷_ 97 (List._∷_ 95 (List._∷_ 116 (List._∷_ 111 (List._∷_ 108 (List._∷_ 100 (List._∷_ 58
+      (List._∷_ 58 (List._∷_ 65 (List._∷_ 110 (List._∷_ 115 (List._∷_ 119 (List._∷_ 101 (List._∷_ 114 List.[]))))))))))))))))))))))))))))) (Syntax.ttcons (Syntax.tcons (Syntax.tyInt
+      Syntax.w32) Syntax.tnil) (Syntax.ttcons (Syntax.tcons (Syntax.tyEnum (List._∷_ 114 (List._∷_ 101 (List._∷_ 102 (List._∷_ 117 (List._∷_ 115 (List._∷_ 97 (List._∷_ 108 (List._∷_
+      58 (List._∷_ 58 (List._∷_ 82 (List._∷_ 101 (List._∷_ 102 (List._∷_ 117 (List._∷_ 115 (List._∷_ 97 (List._∷_ 108 List.[])))))))))))))))) (Syntax.ttcons Syntax.tnil
       (Syntax.ttcons Syntax.tnil (Syntax.ttcons Syntax.tnil (Syntax.ttcons Syntax.tnil (Syntax.ttcons Syntax.tnil (Syntax.ttcons Syntax.tnil (Syntax.ttcons Syntax.tnil (Syntax.ttcons
-      Syntax.tnil (Syntax.ttcons Syntax.tnil Syntax.ttnil))))))))))))) Syntax.tnil) Syntax.ttnil))),
-) (List._∷_ (1, Rows'.whole (Declared'.row Stream.the-type)) (List._∷_ (
-  2,
-  Rows'.sslice Of.R (Syntax.tyRef (Syntax.named 0) Syntax.imm Of.tyBy) 0,
-) (List._∷_ (3, Rows'.sc-here (Row.sInt Syntax.w64)) (List._∷_ (
-  4,
-  Rows'.whole (Declared.row
-      Question.the-type),
-) (List._∷_ (5, Rows.arrF (Array'.Array (Referent.rtF (Referent.fInt Syntax.w32)) 3) 256 0) (List._∷_ (
-  6,
-  Rows'.any-gone (Syntax.tyArray (Syntax.tyArray
-      (Syntax.tyInt Syntax.w32) 3) 4096),
-) (List._∷_ (7, Rows'.any-gone Syntax.tyBool) (List._∷_ (8, Rows.arrF (Referent.rtF (Referent.fInt Syntax.w32)) 3 0) (List._∷_ (
-  9,
-  Rows'.any-gone (Syntax.tyRef Syntax.erased Syntax.mut (Syntax.tyArray (Syntax.tyArray (Syntax.tyInt Syntax.w32) 3) 256)),
-) (List._∷_ (
-  10,
-  Rows'.any-gone (Syntax.tyStruct
-      (List._∷_ 38 (List._∷_ 91 (List._∷_ 93 List.[]))) (Syntax.tcons (Syntax.tyRef Syntax.erased Syntax.mut (Syntax.tyArray (Syntax.tyInt Syntax.w32) 3)) (Syntax.tcons (Syntax.tyInt
-      Syntax.w64) Syntax.tnil))),
-) (List._∷_ (11, Rows'.any-gone (Syntax.tyArray (Syntax.tyInt Syntax.w32) 3)) (List._∷_ (
-  12,
-  Rows'.any-gone (Syntax.tyRef Syntax.erased Syntax.mut
-      (Syntax.tyArray (Syntax.tyArray (Syntax.tyInt Syntax.w32) 3) 4096)),
-) (List._∷_ (
-  13,
-  Rows'.any-gone (Syntax.tyStruct (List._∷_ 38 (List._∷_ 91 (List._∷_ 93 List.[])))
-      (Syntax.tcons (Syntax.tyRef Syntax.erased Syntax.mut (Syntax.tyArray (Syntax.tyInt Syntax.w32) 3)) (Syntax.tcons (Syntax.tyInt Syntax.w64) Syntax.tnil))),
-)
-    List.[])))))))))))))
+      Syntax.tnil (Syntax.ttcons Syntax.tnil (Syntax.ttcons Syntax.tnil (Syntax.ttcons Syntax.tnil (Syntax.ttcons Syntax.tnil Syntax.ttnil))))))))))))) Syntax.tnil) Syntax.ttnil))),
+) (List._∷_ (1, Rows'.whole (Declared'.row Stream.the-type)) (List._∷_ (2, Rows'.sslice Of.R (Syntax.tyRef (Syntax.named 0) Syntax.imm Of.tyBy) 0) (List._∷_ (
+  3,
+  Rows'.sc-here (Row.sInt Syntax.w64),
+) (List._∷_ (4, Rows'.whole (Declared.row Question.the-type)) (List._∷_ (
+  5,
+  Rows.arrF (Array'.Array (Referent.rtF (Referent.fInt
+      Syntax.w32)) 3) 256 0,
+) (List._∷_ (6, Rows'.any-gone (Syntax.tyArray (Syntax.tyArray (Syntax.tyInt Syntax.w32) 3) 4096)) (List._∷_ (7, Rows'.any-gone Syntax.tyBool) (List._∷_
+    (8, Rows.arrF (Referent.rtF (Referent.fInt Syntax.w32)) 3 0) (List._∷_ (
+      9,
+      Rows'.any-gone (Syntax.tyRef Syntax.erased Syntax.mut (Syntax.tyArray (Syntax.tyArray
+          (Syntax.tyInt Syntax.w32) 3) 256)),
+    ) (List._∷_ (
+      10,
+      Rows'.any-gone (Syntax.tyStruct (List._∷_ 38 (List._∷_ 91 (List._∷_ 93 List.[]))) (Syntax.tcons (Syntax.tyRef
+          Syntax.erased Syntax.mut (Syntax.tyArray (Syntax.tyInt Syntax.w32) 3)) (Syntax.tcons (Syntax.tyInt Syntax.w64) Syntax.tnil))),
+    ) (List._∷_ (
+      11,
+      Rows'.any-gone (Syntax.tyArray
+          (Syntax.tyInt Syntax.w32) 3),
+    ) (List._∷_ (12, Rows'.any-gone (Syntax.tyRef Syntax.erased Syntax.mut (Syntax.tyArray (Syntax.tyArray (Syntax.tyInt Syntax.w32) 3) 4096)))
+    (List._∷_ (
+      13,
+      Rows'.any-gone (Syntax.tyStruct (List._∷_ 38 (List._∷_ 91 (List._∷_ 93 List.[]))) (Syntax.tcons (Syntax.tyRef Syntax.erased Syntax.mut (Syntax.tyArray
+          (Syntax.tyInt Syntax.w32) 3)) (Syntax.tcons (Syntax.tyInt Syntax.w64) Syntax.tnil))),
+    ) List.[])))))))))))))
 
 abbrev pub t7 : List.List Row.Entry
 t7 = List._∷_ (
   0,
   Rows'.any-gone (Syntax.tyEnum (List._∷_ 103 (List._∷_ 114 (List._∷_ 101 (List._∷_ 101 (List._∷_ 110 (List._∷_ 119 (List._∷_ 97 (List._∷_ 108 (List._∷_ 100
-      (List._∷_ 95 (List._∷_ 107 (List._∷_ 104 (List._∷_ 97 (List._∷_ 110 (List._∷_ 110 (List._∷_ 97 (List._∷_ 58 (List._∷_ 58 (List._∷_ 65 (List._∷_ 110 (List._∷_ 115 (List._∷_ 119
-      (List._∷_ 101 (List._∷_ 114 List.[])))))))))))))))))))))))) (Syntax.ttcons (Syntax.tcons (Syntax.tyInt Syntax.w32) Syntax.tnil) (Syntax.ttcons (Syntax.tcons (Syntax.tyEnum
-      (List._∷_ 114 (List._∷_ 101 (List._∷_ 102 (List._∷_ 117 (List._∷_ 115 (List._∷_ 97 (List._∷_ 108 (List._∷_ 58 (List._∷_ 58 (List._∷_ 82 (List._∷_ 101 (List._∷_ 102 (List._∷_
-      117 (List._∷_ 115 (List._∷_ 97 (List._∷_ 108 List.[])))))))))))))))) (Syntax.ttcons Syntax.tnil (Syntax.ttcons Syntax.tnil (Syntax.ttcons Syntax.tnil (Syntax.ttcons Syntax.tnil
+      (List._∷_ 95 (List._∷_ 107 (List._∷_ 104 (List._∷_ 97 (List._∷_ 110 (List._∷_ 110 (List._∷_ 97 (List._∷_ 95 (List._∷_ 116 (List._∷_ 111 (List._∷_ 108 (List._∷_ 100 (List._∷_ 58
+      (List._∷_ 58 (List._∷_ 65 (List._∷_ 110 (List._∷_ 115 (List._∷_ 119 (List._∷_ 101 (List._∷_ 114 List.[]))))))))))))))))))))))))))))) (Syntax.ttcons (Syntax.tcons (Syntax.tyInt
+      Syntax.w32) Syntax.tnil) (Syntax.ttcons (Syntax.tcons (Syntax.tyEnum (List._∷_ 114 (List._∷_ 101 (List._∷_ 102 (List._∷_ 117 (List._∷_ 115 (List._∷_ 97 (List._∷_ 108 (List._∷_
+      58 (List._∷_ 58 (List._∷_ 82 (List._∷_ 101 (List._∷_ 102 (List._∷_ 117 (List._∷_ 115 (List._∷_ 97 (List._∷_ 108 List.[])))))))))))))))) (Syntax.ttcons Syntax.tnil
       (Syntax.ttcons Syntax.tnil (Syntax.ttcons Syntax.tnil (Syntax.ttcons Syntax.tnil (Syntax.ttcons Syntax.tnil (Syntax.ttcons Syntax.tnil (Syntax.ttcons Syntax.tnil (Syntax.ttcons
-      Syntax.tnil (Syntax.ttcons Syntax.tnil Syntax.ttnil))))))))))))) Syntax.tnil) Syntax.ttnil))),
-) (List._∷_ (1, Rows'.whole (Declared'.row Stream.the-type)) (List._∷_ (
-  2,
-  Rows'.sslice Of.R (Syntax.tyRef (Syntax.named 0) Syntax.imm Of.tyBy) 0,
-) (List._∷_ (3, Rows'.sc-here (Row.sInt Syntax.w64)) (List._∷_ (
-  4,
-  Rows'.whole (Declared.row
-      Question.the-type),
-) (List._∷_ (5, Rows.arrF (Array'.Array (Referent.rtF (Referent.fInt Syntax.w32)) 3) 256 0) (List._∷_ (
-  6,
-  Rows'.any-gone (Syntax.tyArray (Syntax.tyArray
-      (Syntax.tyInt Syntax.w32) 3) 4096),
-) (List._∷_ (7, Rows'.any-gone Syntax.tyBool) (List._∷_ (8, Rows'.any-gone (Syntax.tyArray (Syntax.tyInt Syntax.w32) 3)) (List._∷_ (
-  9,
-  Rows'.any-gone (Syntax.tyRef Syntax.erased Syntax.mut (Syntax.tyArray (Syntax.tyArray (Syntax.tyInt Syntax.w32) 3) 256)),
-) (List._∷_ (
-  10,
-  Rows'.any-gone (Syntax.tyStruct
-      (List._∷_ 38 (List._∷_ 91 (List._∷_ 93 List.[]))) (Syntax.tcons (Syntax.tyRef Syntax.erased Syntax.mut (Syntax.tyArray (Syntax.tyInt Syntax.w32) 3)) (Syntax.tcons (Syntax.tyInt
-      Syntax.w64) Syntax.tnil))),
-) (List._∷_ (11, Rows'.any-gone (Syntax.tyArray (Syntax.tyInt Syntax.w32) 3)) (List._∷_ (
-  12,
-  Rows'.any-gone (Syntax.tyRef Syntax.erased Syntax.mut
-      (Syntax.tyArray (Syntax.tyArray (Syntax.tyInt Syntax.w32) 3) 4096)),
-) (List._∷_ (
-  13,
-  Rows'.any-gone (Syntax.tyStruct (List._∷_ 38 (List._∷_ 91 (List._∷_ 93 List.[])))
-      (Syntax.tcons (Syntax.tyRef Syntax.erased Syntax.mut (Syntax.tyArray (Syntax.tyInt Syntax.w32) 3)) (Syntax.tcons (Syntax.tyInt Syntax.w64) Syntax.tnil))),
-)
-    List.[])))))))))))))
+      Syntax.tnil (Syntax.ttcons Syntax.tnil (Syntax.ttcons Syntax.tnil (Syntax.ttcons Syntax.tnil (Syntax.ttcons Syntax.tnil Syntax.ttnil))))))))))))) Syntax.tnil) Syntax.ttnil))),
+) (List._∷_ (1, Rows'.whole (Declared'.row Stream.the-type)) (List._∷_ (2, Rows'.sslice Of.R (Syntax.tyRef (Syntax.named 0) Syntax.imm Of.tyBy) 0) (List._∷_ (
+  3,
+  Rows'.sc-here (Row.sInt Syntax.w64),
+) (List._∷_ (4, Rows'.whole (Declared.row Question.the-type)) (List._∷_ (
+  5,
+  Rows.arrF (Array'.Array (Referent.rtF (Referent.fInt
+      Syntax.w32)) 3) 256 0,
+) (List._∷_ (6, Rows'.any-gone (Syntax.tyArray (Syntax.tyArray (Syntax.tyInt Syntax.w32) 3) 4096)) (List._∷_ (7, Rows'.any-gone Syntax.tyBool) (List._∷_
+    (8, Rows'.any-gone (Syntax.tyArray (Syntax.tyInt Syntax.w32) 3)) (List._∷_ (
+      9,
+      Rows'.any-gone (Syntax.tyRef Syntax.erased Syntax.mut (Syntax.tyArray (Syntax.tyArray
+          (Syntax.tyInt Syntax.w32) 3) 256)),
+    ) (List._∷_ (
+      10,
+      Rows'.any-gone (Syntax.tyStruct (List._∷_ 38 (List._∷_ 91 (List._∷_ 93 List.[]))) (Syntax.tcons (Syntax.tyRef
+          Syntax.erased Syntax.mut (Syntax.tyArray (Syntax.tyInt Syntax.w32) 3)) (Syntax.tcons (Syntax.tyInt Syntax.w64) Syntax.tnil))),
+    ) (List._∷_ (
+      11,
+      Rows'.any-gone (Syntax.tyArray
+          (Syntax.tyInt Syntax.w32) 3),
+    ) (List._∷_ (12, Rows'.any-gone (Syntax.tyRef Syntax.erased Syntax.mut (Syntax.tyArray (Syntax.tyArray (Syntax.tyInt Syntax.w32) 3) 4096)))
+    (List._∷_ (
+      13,
+      Rows'.any-gone (Syntax.tyStruct (List._∷_ 38 (List._∷_ 91 (List._∷_ 93 List.[]))) (Syntax.tcons (Syntax.tyRef Syntax.erased Syntax.mut (Syntax.tyArray
+          (Syntax.tyInt Syntax.w32) 3)) (Syntax.tcons (Syntax.tyInt Syntax.w64) Syntax.tnil))),
+    ) List.[])))))))))))))
 
 abbrev pub t8 : List.List Row.Entry
 t8 = List._∷_ (
   0,
   Rows'.any-gone (Syntax.tyEnum (List._∷_ 103 (List._∷_ 114 (List._∷_ 101 (List._∷_ 101 (List._∷_ 110 (List._∷_ 119 (List._∷_ 97 (List._∷_ 108 (List._∷_ 100
-      (List._∷_ 95 (List._∷_ 107 (List._∷_ 104 (List._∷_ 97 (List._∷_ 110 (List._∷_ 110 (List._∷_ 97 (List._∷_ 58 (List._∷_ 58 (List._∷_ 65 (List._∷_ 110 (List._∷_ 115 (List._∷_ 119
-      (List._∷_ 101 (List._∷_ 114 List.[])))))))))))))))))))))))) (Syntax.ttcons (Syntax.tcons (Syntax.tyInt Syntax.w32) Syntax.tnil) (Syntax.ttcons (Syntax.tcons (Syntax.tyEnum
-      (List._∷_ 114 (List._∷_ 101 (List._∷_ 102 (List._∷_ 117 (List._∷_ 115 (List._∷_ 97 (List._∷_ 108 (List._∷_ 58 (List._∷_ 58 (List._∷_ 82 (List._∷_ 101 (List._∷_ 102 (List._∷_
-      117 (List._∷_ 115 (List._∷_ 97 (List._∷_ 108 List.[])))))))))))))))) (Syntax.ttcons Syntax.tnil (Syntax.ttcons Syntax.tnil (Syntax.ttcons Syntax.tnil (Syntax.ttcons Syntax.tnil
+      (List._∷_ 95 (List._∷_ 107 (List._∷_ 104 (List._∷_ 97 (List._∷_ 110 (List._∷_ 110 (List._∷_ 97 (List._∷_ 95 (List._∷_ 116 (List._∷_ 111 (List._∷_ 108 (List._∷_ 100 (List._∷_ 58
+      (List._∷_ 58 (List._∷_ 65 (List._∷_ 110 (List._∷_ 115 (List._∷_ 119 (List._∷_ 101 (List._∷_ 114 List.[]))))))))))))))))))))))))))))) (Syntax.ttcons (Syntax.tcons (Syntax.tyInt
+      Syntax.w32) Syntax.tnil) (Syntax.ttcons (Syntax.tcons (Syntax.tyEnum (List._∷_ 114 (List._∷_ 101 (List._∷_ 102 (List._∷_ 117 (List._∷_ 115 (List._∷_ 97 (List._∷_ 108 (List._∷_
+      58 (List._∷_ 58 (List._∷_ 82 (List._∷_ 101 (List._∷_ 102 (List._∷_ 117 (List._∷_ 115 (List._∷_ 97 (List._∷_ 108 List.[])))))))))))))))) (Syntax.ttcons Syntax.tnil
       (Syntax.ttcons Syntax.tnil (Syntax.ttcons Syntax.tnil (Syntax.ttcons Syntax.tnil (Syntax.ttcons Syntax.tnil (Syntax.ttcons Syntax.tnil (Syntax.ttcons Syntax.tnil (Syntax.ttcons
-      Syntax.tnil (Syntax.ttcons Syntax.tnil Syntax.ttnil))))))))))))) Syntax.tnil) Syntax.ttnil))),
-) (List._∷_ (1, Rows'.whole (Declared'.row Stream.the-type)) (List._∷_ (
-  2,
-  Rows'.sslice Of.R (Syntax.tyRef (Syntax.named 0) Syntax.imm Of.tyBy) 0,
-) (List._∷_ (3, Rows'.sc-here (Row.sInt Syntax.w64)) (List._∷_ (
-  4,
-  Rows'.whole (Declared.row
-      Question.the-type),
-) (List._∷_ (5, Rows.arr-owed (Array'.Array (Referent.rtF (Referent.fInt Syntax.w32)) 3) 256 1) (List._∷_ (
-  6,
-  Rows'.any-gone (Syntax.tyArray
-      (Syntax.tyArray (Syntax.tyInt Syntax.w32) 3) 4096),
-) (List._∷_ (7, Rows'.any-gone Syntax.tyBool) (List._∷_ (8, Rows'.any-gone (Syntax.tyArray (Syntax.tyInt Syntax.w32) 3))
-    (List._∷_ (
+      Syntax.tnil (Syntax.ttcons Syntax.tnil (Syntax.ttcons Syntax.tnil (Syntax.ttcons Syntax.tnil (Syntax.ttcons Syntax.tnil Syntax.ttnil))))))))))))) Syntax.tnil) Syntax.ttnil))),
+) (List._∷_ (1, Rows'.whole (Declared'.row Stream.the-type)) (List._∷_ (2, Rows'.sslice Of.R (Syntax.tyRef (Syntax.named 0) Syntax.imm Of.tyBy) 0) (List._∷_ (
+  3,
+  Rows'.sc-here (Row.sInt Syntax.w64),
+) (List._∷_ (4, Rows'.whole (Declared.row Question.the-type)) (List._∷_ (
+  5,
+  Rows.arr-owed (Array'.Array (Referent.rtF (Referent.fInt
+      Syntax.w32)) 3) 256 1,
+) (List._∷_ (6, Rows'.any-gone (Syntax.tyArray (Syntax.tyArray (Syntax.tyInt Syntax.w32) 3) 4096)) (List._∷_ (7, Rows'.any-gone Syntax.tyBool) (List._∷_
+    (8, Rows'.any-gone (Syntax.tyArray (Syntax.tyInt Syntax.w32) 3)) (List._∷_ (
       9,
-      Relend.msptr (Array'.Array (Referent.rtF (Referent.fInt Syntax.w32)) 3) (Syntax.tyRef Syntax.erased Syntax.mut (Syntax.tyArray (Syntax.tyArray (Syntax.tyInt
-          Syntax.w32) 3) 256)) 1,
+      Relend.msptr (Array'.Array (Referent.rtF (Referent.fInt Syntax.w32)) 3) (Syntax.tyRef
+          Syntax.erased Syntax.mut (Syntax.tyArray (Syntax.tyArray (Syntax.tyInt Syntax.w32) 3) 256)) 1,
     ) (List._∷_ (
       10,
-      Rows'.any-gone (Syntax.tyStruct (List._∷_ 38 (List._∷_ 91 (List._∷_ 93 List.[]))) (Syntax.tcons (Syntax.tyRef Syntax.erased Syntax.mut
-          (Syntax.tyArray (Syntax.tyInt Syntax.w32) 3)) (Syntax.tcons (Syntax.tyInt Syntax.w64) Syntax.tnil))),
+      Rows'.any-gone (Syntax.tyStruct (List._∷_ 38 (List._∷_ 91
+          (List._∷_ 93 List.[]))) (Syntax.tcons (Syntax.tyRef Syntax.erased Syntax.mut (Syntax.tyArray (Syntax.tyInt Syntax.w32) 3)) (Syntax.tcons (Syntax.tyInt Syntax.w64)
+          Syntax.tnil))),
+    ) (List._∷_ (11, Rows'.any-gone (Syntax.tyArray (Syntax.tyInt Syntax.w32) 3)) (List._∷_ (
+      12,
+      Rows'.any-gone (Syntax.tyRef Syntax.erased Syntax.mut
+          (Syntax.tyArray (Syntax.tyArray (Syntax.tyInt Syntax.w32) 3) 4096)),
     ) (List._∷_ (
-      11,
-      Rows'.any-gone (Syntax.tyArray (Syntax.tyInt Syntax.w32)
-          3),
-    ) (List._∷_ (12, Rows'.any-gone (Syntax.tyRef Syntax.erased Syntax.mut (Syntax.tyArray (Syntax.tyArray (Syntax.tyInt Syntax.w32) 3) 4096))) (List._∷_ (
       13,
-      Rows'.any-gone
-          (Syntax.tyStruct (List._∷_ 38 (List._∷_ 91 (List._∷_ 93 List.[]))) (Syntax.tcons (Syntax.tyRef Syntax.erased Syntax.mut (Syntax.tyArray (Syntax.tyInt Syntax.w32) 3))
-          (Syntax.tcons (Syntax.tyInt Syntax.w64) Syntax.tnil))),
-    ) List.[])))))))))))))
+      Rows'.any-gone (Syntax.tyStruct (List._∷_ 38 (List._∷_ 91 (List._∷_ 93 List.[])))
+          (Syntax.tcons (Syntax.tyRef Syntax.erased Syntax.mut (Syntax.tyArray (Syntax.tyInt Syntax.w32) 3)) (Syntax.tcons (Syntax.tyInt Syntax.w64) Syntax.tnil))),
+    )
+    List.[])))))))))))))
 
 abbrev pub t9 : List.List Row.Entry
 t9 = List._∷_ (
   0,
   Rows'.any-gone (Syntax.tyEnum (List._∷_ 103 (List._∷_ 114 (List._∷_ 101 (List._∷_ 101 (List._∷_ 110 (List._∷_ 119 (List._∷_ 97 (List._∷_ 108 (List._∷_ 100
-      (List._∷_ 95 (List._∷_ 107 (List._∷_ 104 (List._∷_ 97 (List._∷_ 110 (List._∷_ 110 (List._∷_ 97 (List._∷_ 58 (List._∷_ 58 (List._∷_ 65 (List._∷_ 110 (List._∷_ 115 (List._∷_ 119
-      (List._∷_ 101 (List._∷_ 114 List.[])))))))))))))))))))))))) (Syntax.ttcons (Syntax.tcons (Syntax.tyInt Syntax.w32) Syntax.tnil) (Syntax.ttcons (Syntax.tcons (Syntax.tyEnum
-      (List._∷_ 114 (List._∷_ 101 (List._∷_ 102 (List._∷_ 117 (List._∷_ 115 (List._∷_ 97 (List._∷_ 108 (List._∷_ 58 (List._∷_ 58 (List._∷_ 82 (List._∷_ 101 (List._∷_ 102 (List._∷_
-      117 (List._∷_ 115 (List._∷_ 97 (List._∷_ 108 List.[])))))))))))))))) (Syntax.ttcons Syntax.tnil (Syntax.ttcons Syntax.tnil (Syntax.ttcons Syntax.tnil (Syntax.ttcons Syntax.tnil
+      (List._∷_ 95 (List._∷_ 107 (List._∷_ 104 (List._∷_ 97 (List._∷_ 110 (List._∷_ 110 (List._∷_ 97 (List._∷_ 95 (List._∷_ 116 (List._∷_ 111 (List._∷_ 108 (List._∷_ 100 (List._∷_ 58
+      (List._∷_ 58 (List._∷_ 65 (List._∷_ 110 (List._∷_ 115 (List._∷_ 119 (List._∷_ 101 (List._∷_ 114 List.[]))))))))))))))))))))))))))))) (Syntax.ttcons (Syntax.tcons (Syntax.tyInt
+      Syntax.w32) Syntax.tnil) (Syntax.ttcons (Syntax.tcons (Syntax.tyEnum (List._∷_ 114 (List._∷_ 101 (List._∷_ 102 (List._∷_ 117 (List._∷_ 115 (List._∷_ 97 (List._∷_ 108 (List._∷_
+      58 (List._∷_ 58 (List._∷_ 82 (List._∷_ 101 (List._∷_ 102 (List._∷_ 117 (List._∷_ 115 (List._∷_ 97 (List._∷_ 108 List.[])))))))))))))))) (Syntax.ttcons Syntax.tnil
       (Syntax.ttcons Syntax.tnil (Syntax.ttcons Syntax.tnil (Syntax.ttcons Syntax.tnil (Syntax.ttcons Syntax.tnil (Syntax.ttcons Syntax.tnil (Syntax.ttcons Syntax.tnil (Syntax.ttcons
-      Syntax.tnil (Syntax.ttcons Syntax.tnil Syntax.ttnil))))))))))))) Syntax.tnil) Syntax.ttnil))),
-) (List._∷_ (1, Rows'.whole (Declared'.row Stream.the-type)) (List._∷_ (
-  2,
-  Rows'.sslice Of.R (Syntax.tyRef (Syntax.named 0) Syntax.imm Of.tyBy) 0,
-) (List._∷_ (3, Rows'.sc-here (Row.sInt Syntax.w64)) (List._∷_ (
-  4,
-  Rows'.whole (Declared.row
-      Question.the-type),
-) (List._∷_ (5, Rows.arr-owed (Array'.Array (Referent.rtF (Referent.fInt Syntax.w32)) 3) 256 1) (List._∷_ (
-  6,
-  Rows'.any-gone (Syntax.tyArray
-      (Syntax.tyArray (Syntax.tyInt Syntax.w32) 3) 4096),
-) (List._∷_ (7, Rows'.any-gone Syntax.tyBool) (List._∷_ (8, Rows'.any-gone (Syntax.tyArray (Syntax.tyInt Syntax.w32) 3))
-    (List._∷_ (9, Rows'.any-gone (Syntax.tyRef Syntax.erased Syntax.mut (Syntax.tyArray (Syntax.tyArray (Syntax.tyInt Syntax.w32) 3) 256))) (List._∷_ (
+      Syntax.tnil (Syntax.ttcons Syntax.tnil (Syntax.ttcons Syntax.tnil (Syntax.ttcons Syntax.tnil (Syntax.ttcons Syntax.tnil Syntax.ttnil))))))))))))) Syntax.tnil) Syntax.ttnil))),
+) (List._∷_ (1, Rows'.whole (Declared'.row Stream.the-type)) (List._∷_ (2, Rows'.sslice Of.R (Syntax.tyRef (Syntax.named 0) Syntax.imm Of.tyBy) 0) (List._∷_ (
+  3,
+  Rows'.sc-here (Row.sInt Syntax.w64),
+) (List._∷_ (4, Rows'.whole (Declared.row Question.the-type)) (List._∷_ (
+  5,
+  Rows.arr-owed (Array'.Array (Referent.rtF (Referent.fInt
+      Syntax.w32)) 3) 256 1,
+) (List._∷_ (6, Rows'.any-gone (Syntax.tyArray (Syntax.tyArray (Syntax.tyInt Syntax.w32) 3) 4096)) (List._∷_ (7, Rows'.any-gone Syntax.tyBool) (List._∷_
+    (8, Rows'.any-gone (Syntax.tyArray (Syntax.tyInt Syntax.w32) 3)) (List._∷_ (
+      9,
+      Rows'.any-gone (Syntax.tyRef Syntax.erased Syntax.mut (Syntax.tyArray (Syntax.tyArray
+          (Syntax.tyInt Syntax.w32) 3) 256)),
+    ) (List._∷_ (
       10,
-      Mut.mslice
-          (Array'.Array (Referent.rtF (Referent.fInt Syntax.w32)) 3) (Syntax.tyRef Syntax.erased Syntax.mut (Syntax.tyArray (Syntax.tyInt Syntax.w32) 3)) 1,
-    ) (List._∷_ (
-      11,
-      Rows'.any-gone (Syntax.tyArray (Syntax.tyInt Syntax.w32) 3),
-    ) (List._∷_ (
+      Mut.mslice (Array'.Array (Referent.rtF (Referent.fInt Syntax.w32)) 3) (Syntax.tyRef Syntax.erased Syntax.mut
+          (Syntax.tyArray (Syntax.tyInt Syntax.w32) 3)) 1,
+    ) (List._∷_ (11, Rows'.any-gone (Syntax.tyArray (Syntax.tyInt Syntax.w32) 3)) (List._∷_ (
       12,
-      Rows'.any-gone (Syntax.tyRef Syntax.erased Syntax.mut (Syntax.tyArray (Syntax.tyArray (Syntax.tyInt
-          Syntax.w32) 3) 4096)),
+      Rows'.any-gone (Syntax.tyRef
+          Syntax.erased Syntax.mut (Syntax.tyArray (Syntax.tyArray (Syntax.tyInt Syntax.w32) 3) 4096)),
     ) (List._∷_ (
       13,
-      Rows'.any-gone (Syntax.tyStruct (List._∷_ 38 (List._∷_ 91 (List._∷_ 93 List.[]))) (Syntax.tcons (Syntax.tyRef Syntax.erased Syntax.mut
-          (Syntax.tyArray (Syntax.tyInt Syntax.w32) 3)) (Syntax.tcons (Syntax.tyInt Syntax.w64) Syntax.tnil))),
+      Rows'.any-gone (Syntax.tyStruct (List._∷_ 38 (List._∷_ 91
+          (List._∷_ 93 List.[]))) (Syntax.tcons (Syntax.tyRef Syntax.erased Syntax.mut (Syntax.tyArray (Syntax.tyInt Syntax.w32) 3)) (Syntax.tcons (Syntax.tyInt Syntax.w64)
+          Syntax.tnil))),
     ) List.[])))))))))))))
 
 abbrev pub t10 : List.List Row.Entry
@@ -883,269 +877,274 @@ abbrev pub t15 : List.List Row.Entry
 t15 = List._∷_ (
   0,
   Rows'.any-gone (Syntax.tyEnum (List._∷_ 103 (List._∷_ 114 (List._∷_ 101 (List._∷_ 101 (List._∷_ 110 (List._∷_ 119 (List._∷_ 97 (List._∷_ 108 (List._∷_ 100
-      (List._∷_ 95 (List._∷_ 107 (List._∷_ 104 (List._∷_ 97 (List._∷_ 110 (List._∷_ 110 (List._∷_ 97 (List._∷_ 58 (List._∷_ 58 (List._∷_ 65 (List._∷_ 110 (List._∷_ 115 (List._∷_ 119
-      (List._∷_ 101 (List._∷_ 114 List.[])))))))))))))))))))))))) (Syntax.ttcons (Syntax.tcons (Syntax.tyInt Syntax.w32) Syntax.tnil) (Syntax.ttcons (Syntax.tcons (Syntax.tyEnum
-      (List._∷_ 114 (List._∷_ 101 (List._∷_ 102 (List._∷_ 117 (List._∷_ 115 (List._∷_ 97 (List._∷_ 108 (List._∷_ 58 (List._∷_ 58 (List._∷_ 82 (List._∷_ 101 (List._∷_ 102 (List._∷_
-      117 (List._∷_ 115 (List._∷_ 97 (List._∷_ 108 List.[])))))))))))))))) (Syntax.ttcons Syntax.tnil (Syntax.ttcons Syntax.tnil (Syntax.ttcons Syntax.tnil (Syntax.ttcons Syntax.tnil
+      (List._∷_ 95 (List._∷_ 107 (List._∷_ 104 (List._∷_ 97 (List._∷_ 110 (List._∷_ 110 (List._∷_ 97 (List._∷_ 95 (List._∷_ 116 (List._∷_ 111 (List._∷_ 108 (List._∷_ 100 (List._∷_ 58
+      (List._∷_ 58 (List._∷_ 65 (List._∷_ 110 (List._∷_ 115 (List._∷_ 119 (List._∷_ 101 (List._∷_ 114 List.[]))))))))))))))))))))))))))))) (Syntax.ttcons (Syntax.tcons (Syntax.tyInt
+      Syntax.w32) Syntax.tnil) (Syntax.ttcons (Syntax.tcons (Syntax.tyEnum (List._∷_ 114 (List._∷_ 101 (List._∷_ 102 (List._∷_ 117 (List._∷_ 115 (List._∷_ 97 (List._∷_ 108 (List._∷_
+      58 (List._∷_ 58 (List._∷_ 82 (List._∷_ 101 (List._∷_ 102 (List._∷_ 117 (List._∷_ 115 (List._∷_ 97 (List._∷_ 108 List.[])))))))))))))))) (Syntax.ttcons Syntax.tnil
       (Syntax.ttcons Syntax.tnil (Syntax.ttcons Syntax.tnil (Syntax.ttcons Syntax.tnil (Syntax.ttcons Syntax.tnil (Syntax.ttcons Syntax.tnil (Syntax.ttcons Syntax.tnil (Syntax.ttcons
-      Syntax.tnil (Syntax.ttcons Syntax.tnil Syntax.ttnil))))))))))))) Syntax.tnil) Syntax.ttnil))),
-) (List._∷_ (1, Rows'.whole (Declared'.row Stream.the-type)) (List._∷_ (
-  2,
-  Rows'.sslice Of.R (Syntax.tyRef (Syntax.named 0) Syntax.imm Of.tyBy) 0,
-) (List._∷_ (3, Rows'.sc-here (Row.sInt Syntax.w64)) (List._∷_ (
-  4,
-  Rows'.whole (Declared.row
-      Question.the-type),
-) (List._∷_ (5, Rows'.any-gone (Syntax.tyArray (Syntax.tyArray (Syntax.tyInt Syntax.w32) 3) 256)) (List._∷_ (
-  6,
-  Rows'.any-gone (Syntax.tyArray
-      (Syntax.tyArray (Syntax.tyInt Syntax.w32) 3) 4096),
-) (List._∷_ (7, Rows'.any-gone Syntax.tyBool) (List._∷_ (8, Rows'.any-gone (Syntax.tyArray (Syntax.tyInt Syntax.w32) 3))
-    (List._∷_ (9, Rows'.any-gone (Syntax.tyRef Syntax.erased Syntax.mut (Syntax.tyArray (Syntax.tyArray (Syntax.tyInt Syntax.w32) 3) 256))) (List._∷_ (
+      Syntax.tnil (Syntax.ttcons Syntax.tnil (Syntax.ttcons Syntax.tnil (Syntax.ttcons Syntax.tnil (Syntax.ttcons Syntax.tnil Syntax.ttnil))))))))))))) Syntax.tnil) Syntax.ttnil))),
+) (List._∷_ (1, Rows'.whole (Declared'.row Stream.the-type)) (List._∷_ (2, Rows'.sslice Of.R (Syntax.tyRef (Syntax.named 0) Syntax.imm Of.tyBy) 0) (List._∷_ (
+  3,
+  Rows'.sc-here (Row.sInt Syntax.w64),
+) (List._∷_ (4, Rows'.whole (Declared.row Question.the-type)) (List._∷_ (
+  5,
+  Rows'.any-gone (Syntax.tyArray (Syntax.tyArray (Syntax.tyInt
+      Syntax.w32) 3) 256),
+) (List._∷_ (6, Rows'.any-gone (Syntax.tyArray (Syntax.tyArray (Syntax.tyInt Syntax.w32) 3) 4096)) (List._∷_ (7, Rows'.any-gone Syntax.tyBool) (List._∷_
+    (8, Rows'.any-gone (Syntax.tyArray (Syntax.tyInt Syntax.w32) 3)) (List._∷_ (
+      9,
+      Rows'.any-gone (Syntax.tyRef Syntax.erased Syntax.mut (Syntax.tyArray (Syntax.tyArray
+          (Syntax.tyInt Syntax.w32) 3) 256)),
+    ) (List._∷_ (
       10,
-      Rows'.any-gone
-          (Syntax.tyStruct (List._∷_ 38 (List._∷_ 91 (List._∷_ 93 List.[]))) (Syntax.tcons (Syntax.tyRef Syntax.erased Syntax.mut (Syntax.tyArray (Syntax.tyInt Syntax.w32) 3))
-          (Syntax.tcons (Syntax.tyInt Syntax.w64) Syntax.tnil))),
-    ) (List._∷_ (11, Rows'.whole (Array'.Array (Referent.rtF (Referent.fInt Syntax.w32)) 3)) (List._∷_ (
+      Rows'.any-gone (Syntax.tyStruct (List._∷_ 38 (List._∷_ 91 (List._∷_ 93 List.[]))) (Syntax.tcons (Syntax.tyRef
+          Syntax.erased Syntax.mut (Syntax.tyArray (Syntax.tyInt Syntax.w32) 3)) (Syntax.tcons (Syntax.tyInt Syntax.w64) Syntax.tnil))),
+    ) (List._∷_ (
+      11,
+      Rows'.whole (Array'.Array
+          (Referent.rtF (Referent.fInt Syntax.w32)) 3),
+    ) (List._∷_ (
       12,
-      Rows'.any-gone
-          (Syntax.tyRef Syntax.erased Syntax.mut (Syntax.tyArray (Syntax.tyArray (Syntax.tyInt Syntax.w32) 3) 4096)),
+      Rows'.any-gone (Syntax.tyRef Syntax.erased Syntax.mut (Syntax.tyArray (Syntax.tyArray (Syntax.tyInt Syntax.w32) 3)
+          4096)),
     ) (List._∷_ (
       13,
-      Rows'.any-gone (Syntax.tyStruct (List._∷_ 38
-          (List._∷_ 91 (List._∷_ 93 List.[]))) (Syntax.tcons (Syntax.tyRef Syntax.erased Syntax.mut (Syntax.tyArray (Syntax.tyInt Syntax.w32) 3)) (Syntax.tcons (Syntax.tyInt Syntax.w64)
-          Syntax.tnil))),
+      Rows'.any-gone (Syntax.tyStruct (List._∷_ 38 (List._∷_ 91 (List._∷_ 93 List.[]))) (Syntax.tcons (Syntax.tyRef Syntax.erased Syntax.mut (Syntax.tyArray
+          (Syntax.tyInt Syntax.w32) 3)) (Syntax.tcons (Syntax.tyInt Syntax.w64) Syntax.tnil))),
     ) List.[])))))))))))))
 
 abbrev pub t16 : List.List Row.Entry
 t16 = List._∷_ (
   0,
   Rows'.any-gone (Syntax.tyEnum (List._∷_ 103 (List._∷_ 114 (List._∷_ 101 (List._∷_ 101 (List._∷_ 110 (List._∷_ 119 (List._∷_ 97 (List._∷_ 108 (List._∷_ 100
-      (List._∷_ 95 (List._∷_ 107 (List._∷_ 104 (List._∷_ 97 (List._∷_ 110 (List._∷_ 110 (List._∷_ 97 (List._∷_ 58 (List._∷_ 58 (List._∷_ 65 (List._∷_ 110 (List._∷_ 115 (List._∷_ 119
-      (List._∷_ 101 (List._∷_ 114 List.[])))))))))))))))))))))))) (Syntax.ttcons (Syntax.tcons (Syntax.tyInt Syntax.w32) Syntax.tnil) (Syntax.ttcons (Syntax.tcons (Syntax.tyEnum
-      (List._∷_ 114 (List._∷_ 101 (List._∷_ 102 (List._∷_ 117 (List._∷_ 115 (List._∷_ 97 (List._∷_ 108 (List._∷_ 58 (List._∷_ 58 (List._∷_ 82 (List._∷_ 101 (List._∷_ 102 (List._∷_
-      117 (List._∷_ 115 (List._∷_ 97 (List._∷_ 108 List.[])))))))))))))))) (Syntax.ttcons Syntax.tnil (Syntax.ttcons Syntax.tnil (Syntax.ttcons Syntax.tnil (Syntax.ttcons Syntax.tnil
+      (List._∷_ 95 (List._∷_ 107 (List._∷_ 104 (List._∷_ 97 (List._∷_ 110 (List._∷_ 110 (List._∷_ 97 (List._∷_ 95 (List._∷_ 116 (List._∷_ 111 (List._∷_ 108 (List._∷_ 100 (List._∷_ 58
+      (List._∷_ 58 (List._∷_ 65 (List._∷_ 110 (List._∷_ 115 (List._∷_ 119 (List._∷_ 101 (List._∷_ 114 List.[]))))))))))))))))))))))))))))) (Syntax.ttcons (Syntax.tcons (Syntax.tyInt
+      Syntax.w32) Syntax.tnil) (Syntax.ttcons (Syntax.tcons (Syntax.tyEnum (List._∷_ 114 (List._∷_ 101 (List._∷_ 102 (List._∷_ 117 (List._∷_ 115 (List._∷_ 97 (List._∷_ 108 (List._∷_
+      58 (List._∷_ 58 (List._∷_ 82 (List._∷_ 101 (List._∷_ 102 (List._∷_ 117 (List._∷_ 115 (List._∷_ 97 (List._∷_ 108 List.[])))))))))))))))) (Syntax.ttcons Syntax.tnil
       (Syntax.ttcons Syntax.tnil (Syntax.ttcons Syntax.tnil (Syntax.ttcons Syntax.tnil (Syntax.ttcons Syntax.tnil (Syntax.ttcons Syntax.tnil (Syntax.ttcons Syntax.tnil (Syntax.ttcons
-      Syntax.tnil (Syntax.ttcons Syntax.tnil Syntax.ttnil))))))))))))) Syntax.tnil) Syntax.ttnil))),
-) (List._∷_ (1, Rows'.whole (Declared'.row Stream.the-type)) (List._∷_ (
-  2,
-  Rows'.sslice Of.R (Syntax.tyRef (Syntax.named 0) Syntax.imm Of.tyBy) 0,
-) (List._∷_ (3, Rows'.sc-here (Row.sInt Syntax.w64)) (List._∷_ (
-  4,
-  Rows'.whole (Declared.row
-      Question.the-type),
-) (List._∷_ (5, Rows'.any-gone (Syntax.tyArray (Syntax.tyArray (Syntax.tyInt Syntax.w32) 3) 256)) (List._∷_ (
-  6,
-  Rows'.any-gone (Syntax.tyArray
-      (Syntax.tyArray (Syntax.tyInt Syntax.w32) 3) 4096),
-) (List._∷_ (7, Rows'.any-gone Syntax.tyBool) (List._∷_ (8, Rows'.any-gone (Syntax.tyArray (Syntax.tyInt Syntax.w32) 3))
-    (List._∷_ (9, Rows'.any-gone (Syntax.tyRef Syntax.erased Syntax.mut (Syntax.tyArray (Syntax.tyArray (Syntax.tyInt Syntax.w32) 3) 256))) (List._∷_ (
-      10,
-      Rows'.any-gone
-          (Syntax.tyStruct (List._∷_ 38 (List._∷_ 91 (List._∷_ 93 List.[]))) (Syntax.tcons (Syntax.tyRef Syntax.erased Syntax.mut (Syntax.tyArray (Syntax.tyInt Syntax.w32) 3))
-          (Syntax.tcons (Syntax.tyInt Syntax.w64) Syntax.tnil))),
-    ) (List._∷_ (11, Rows.arrF (Referent.rtF (Referent.fInt Syntax.w32)) 3 0) (List._∷_ (
-      12,
-      Rows'.any-gone (Syntax.tyRef
-          Syntax.erased Syntax.mut (Syntax.tyArray (Syntax.tyArray (Syntax.tyInt Syntax.w32) 3) 4096)),
+      Syntax.tnil (Syntax.ttcons Syntax.tnil (Syntax.ttcons Syntax.tnil (Syntax.ttcons Syntax.tnil (Syntax.ttcons Syntax.tnil Syntax.ttnil))))))))))))) Syntax.tnil) Syntax.ttnil))),
+) (List._∷_ (1, Rows'.whole (Declared'.row Stream.the-type)) (List._∷_ (2, Rows'.sslice Of.R (Syntax.tyRef (Syntax.named 0) Syntax.imm Of.tyBy) 0) (List._∷_ (
+  3,
+  Rows'.sc-here (Row.sInt Syntax.w64),
+) (List._∷_ (4, Rows'.whole (Declared.row Question.the-type)) (List._∷_ (
+  5,
+  Rows'.any-gone (Syntax.tyArray (Syntax.tyArray (Syntax.tyInt
+      Syntax.w32) 3) 256),
+) (List._∷_ (6, Rows'.any-gone (Syntax.tyArray (Syntax.tyArray (Syntax.tyInt Syntax.w32) 3) 4096)) (List._∷_ (7, Rows'.any-gone Syntax.tyBool) (List._∷_
+    (8, Rows'.any-gone (Syntax.tyArray (Syntax.tyInt Syntax.w32) 3)) (List._∷_ (
+      9,
+      Rows'.any-gone (Syntax.tyRef Syntax.erased Syntax.mut (Syntax.tyArray (Syntax.tyArray
+          (Syntax.tyInt Syntax.w32) 3) 256)),
     ) (List._∷_ (
+      10,
+      Rows'.any-gone (Syntax.tyStruct (List._∷_ 38 (List._∷_ 91 (List._∷_ 93 List.[]))) (Syntax.tcons (Syntax.tyRef
+          Syntax.erased Syntax.mut (Syntax.tyArray (Syntax.tyInt Syntax.w32) 3)) (Syntax.tcons (Syntax.tyInt Syntax.w64) Syntax.tnil))),
+    ) (List._∷_ (
+      11,
+      Rows.arrF (Referent.rtF
+          (Referent.fInt Syntax.w32)) 3 0,
+    ) (List._∷_ (12, Rows'.any-gone (Syntax.tyRef Syntax.erased Syntax.mut (Syntax.tyArray (Syntax.tyArray (Syntax.tyInt Syntax.w32) 3) 4096)))
+    (List._∷_ (
       13,
-      Rows'.any-gone (Syntax.tyStruct (List._∷_ 38 (List._∷_ 91
-          (List._∷_ 93 List.[]))) (Syntax.tcons (Syntax.tyRef Syntax.erased Syntax.mut (Syntax.tyArray (Syntax.tyInt Syntax.w32) 3)) (Syntax.tcons (Syntax.tyInt Syntax.w64)
-          Syntax.tnil))),
+      Rows'.any-gone (Syntax.tyStruct (List._∷_ 38 (List._∷_ 91 (List._∷_ 93 List.[]))) (Syntax.tcons (Syntax.tyRef Syntax.erased Syntax.mut (Syntax.tyArray
+          (Syntax.tyInt Syntax.w32) 3)) (Syntax.tcons (Syntax.tyInt Syntax.w64) Syntax.tnil))),
     ) List.[])))))))))))))
 
 abbrev pub t17 : List.List Row.Entry
 t17 = List._∷_ (
   0,
   Rows'.any-gone (Syntax.tyEnum (List._∷_ 103 (List._∷_ 114 (List._∷_ 101 (List._∷_ 101 (List._∷_ 110 (List._∷_ 119 (List._∷_ 97 (List._∷_ 108 (List._∷_ 100
-      (List._∷_ 95 (List._∷_ 107 (List._∷_ 104 (List._∷_ 97 (List._∷_ 110 (List._∷_ 110 (List._∷_ 97 (List._∷_ 58 (List._∷_ 58 (List._∷_ 65 (List._∷_ 110 (List._∷_ 115 (List._∷_ 119
-      (List._∷_ 101 (List._∷_ 114 List.[])))))))))))))))))))))))) (Syntax.ttcons (Syntax.tcons (Syntax.tyInt Syntax.w32) Syntax.tnil) (Syntax.ttcons (Syntax.tcons (Syntax.tyEnum
-      (List._∷_ 114 (List._∷_ 101 (List._∷_ 102 (List._∷_ 117 (List._∷_ 115 (List._∷_ 97 (List._∷_ 108 (List._∷_ 58 (List._∷_ 58 (List._∷_ 82 (List._∷_ 101 (List._∷_ 102 (List._∷_
-      117 (List._∷_ 115 (List._∷_ 97 (List._∷_ 108 List.[])))))))))))))))) (Syntax.ttcons Syntax.tnil (Syntax.ttcons Syntax.tnil (Syntax.ttcons Syntax.tnil (Syntax.ttcons Syntax.tnil
+      (List._∷_ 95 (List._∷_ 107 (List._∷_ 104 (List._∷_ 97 (List._∷_ 110 (List._∷_ 110 (List._∷_ 97 (List._∷_ 95 (List._∷_ 116 (List._∷_ 111 (List._∷_ 108 (List._∷_ 100 (List._∷_ 58
+      (List._∷_ 58 (List._∷_ 65 (List._∷_ 110 (List._∷_ 115 (List._∷_ 119 (List._∷_ 101 (List._∷_ 114 List.[]))))))))))))))))))))))))))))) (Syntax.ttcons (Syntax.tcons (Syntax.tyInt
+      Syntax.w32) Syntax.tnil) (Syntax.ttcons (Syntax.tcons (Syntax.tyEnum (List._∷_ 114 (List._∷_ 101 (List._∷_ 102 (List._∷_ 117 (List._∷_ 115 (List._∷_ 97 (List._∷_ 108 (List._∷_
+      58 (List._∷_ 58 (List._∷_ 82 (List._∷_ 101 (List._∷_ 102 (List._∷_ 117 (List._∷_ 115 (List._∷_ 97 (List._∷_ 108 List.[])))))))))))))))) (Syntax.ttcons Syntax.tnil
       (Syntax.ttcons Syntax.tnil (Syntax.ttcons Syntax.tnil (Syntax.ttcons Syntax.tnil (Syntax.ttcons Syntax.tnil (Syntax.ttcons Syntax.tnil (Syntax.ttcons Syntax.tnil (Syntax.ttcons
-      Syntax.tnil (Syntax.ttcons Syntax.tnil Syntax.ttnil))))))))))))) Syntax.tnil) Syntax.ttnil))),
-) (List._∷_ (1, Rows'.whole (Declared'.row Stream.the-type)) (List._∷_ (
-  2,
-  Rows'.sslice Of.R (Syntax.tyRef (Syntax.named 0) Syntax.imm Of.tyBy) 0,
-) (List._∷_ (3, Rows'.sc-here (Row.sInt Syntax.w64)) (List._∷_ (
-  4,
-  Rows'.whole (Declared.row
-      Question.the-type),
-) (List._∷_ (5, Rows'.any-gone (Syntax.tyArray (Syntax.tyArray (Syntax.tyInt Syntax.w32) 3) 256)) (List._∷_ (
-  6,
-  Rows'.whole (Array'.Array (Array'.Array
-      (Referent.rtF (Referent.fInt Syntax.w32)) 3) 4096),
-) (List._∷_ (7, Rows'.any-gone Syntax.tyBool) (List._∷_ (8, Rows'.any-gone (Syntax.tyArray (Syntax.tyInt Syntax.w32) 3))
-    (List._∷_ (9, Rows'.any-gone (Syntax.tyRef Syntax.erased Syntax.mut (Syntax.tyArray (Syntax.tyArray (Syntax.tyInt Syntax.w32) 3) 256))) (List._∷_ (
+      Syntax.tnil (Syntax.ttcons Syntax.tnil (Syntax.ttcons Syntax.tnil (Syntax.ttcons Syntax.tnil (Syntax.ttcons Syntax.tnil Syntax.ttnil))))))))))))) Syntax.tnil) Syntax.ttnil))),
+) (List._∷_ (1, Rows'.whole (Declared'.row Stream.the-type)) (List._∷_ (2, Rows'.sslice Of.R (Syntax.tyRef (Syntax.named 0) Syntax.imm Of.tyBy) 0) (List._∷_ (
+  3,
+  Rows'.sc-here (Row.sInt Syntax.w64),
+) (List._∷_ (4, Rows'.whole (Declared.row Question.the-type)) (List._∷_ (
+  5,
+  Rows'.any-gone (Syntax.tyArray (Syntax.tyArray (Syntax.tyInt
+      Syntax.w32) 3) 256),
+) (List._∷_ (6, Rows'.whole (Array'.Array (Array'.Array (Referent.rtF (Referent.fInt Syntax.w32)) 3) 4096)) (List._∷_ (7, Rows'.any-gone Syntax.tyBool)
+    (List._∷_ (8, Rows'.any-gone (Syntax.tyArray (Syntax.tyInt Syntax.w32) 3)) (List._∷_ (
+      9,
+      Rows'.any-gone (Syntax.tyRef Syntax.erased Syntax.mut (Syntax.tyArray
+          (Syntax.tyArray (Syntax.tyInt Syntax.w32) 3) 256)),
+    ) (List._∷_ (
       10,
-      Rows'.any-gone
-          (Syntax.tyStruct (List._∷_ 38 (List._∷_ 91 (List._∷_ 93 List.[]))) (Syntax.tcons (Syntax.tyRef Syntax.erased Syntax.mut (Syntax.tyArray (Syntax.tyInt Syntax.w32) 3))
-          (Syntax.tcons (Syntax.tyInt Syntax.w64) Syntax.tnil))),
-    ) (List._∷_ (11, Rows.arrF (Referent.rtF (Referent.fInt Syntax.w32)) 3 0) (List._∷_ (
+      Rows'.any-gone (Syntax.tyStruct (List._∷_ 38 (List._∷_ 91 (List._∷_ 93 List.[]))) (Syntax.tcons
+          (Syntax.tyRef Syntax.erased Syntax.mut (Syntax.tyArray (Syntax.tyInt Syntax.w32) 3)) (Syntax.tcons (Syntax.tyInt Syntax.w64) Syntax.tnil))),
+    ) (List._∷_ (
+      11,
+      Rows.arrF
+          (Referent.rtF (Referent.fInt Syntax.w32)) 3 0,
+    ) (List._∷_ (
       12,
-      Rows'.any-gone (Syntax.tyRef
-          Syntax.erased Syntax.mut (Syntax.tyArray (Syntax.tyArray (Syntax.tyInt Syntax.w32) 3) 4096)),
+      Rows'.any-gone (Syntax.tyRef Syntax.erased Syntax.mut (Syntax.tyArray (Syntax.tyArray (Syntax.tyInt Syntax.w32)
+          3) 4096)),
     ) (List._∷_ (
       13,
-      Rows'.any-gone (Syntax.tyStruct (List._∷_ 38 (List._∷_ 91
-          (List._∷_ 93 List.[]))) (Syntax.tcons (Syntax.tyRef Syntax.erased Syntax.mut (Syntax.tyArray (Syntax.tyInt Syntax.w32) 3)) (Syntax.tcons (Syntax.tyInt Syntax.w64)
-          Syntax.tnil))),
+      Rows'.any-gone (Syntax.tyStruct (List._∷_ 38 (List._∷_ 91 (List._∷_ 93 List.[]))) (Syntax.tcons (Syntax.tyRef Syntax.erased Syntax.mut
+          (Syntax.tyArray (Syntax.tyInt Syntax.w32) 3)) (Syntax.tcons (Syntax.tyInt Syntax.w64) Syntax.tnil))),
     ) List.[])))))))))))))
 
 abbrev pub t18 : List.List Row.Entry
 t18 = List._∷_ (
   0,
   Rows'.any-gone (Syntax.tyEnum (List._∷_ 103 (List._∷_ 114 (List._∷_ 101 (List._∷_ 101 (List._∷_ 110 (List._∷_ 119 (List._∷_ 97 (List._∷_ 108 (List._∷_ 100
-      (List._∷_ 95 (List._∷_ 107 (List._∷_ 104 (List._∷_ 97 (List._∷_ 110 (List._∷_ 110 (List._∷_ 97 (List._∷_ 58 (List._∷_ 58 (List._∷_ 65 (List._∷_ 110 (List._∷_ 115 (List._∷_ 119
-      (List._∷_ 101 (List._∷_ 114 List.[])))))))))))))))))))))))) (Syntax.ttcons (Syntax.tcons (Syntax.tyInt Syntax.w32) Syntax.tnil) (Syntax.ttcons (Syntax.tcons (Syntax.tyEnum
-      (List._∷_ 114 (List._∷_ 101 (List._∷_ 102 (List._∷_ 117 (List._∷_ 115 (List._∷_ 97 (List._∷_ 108 (List._∷_ 58 (List._∷_ 58 (List._∷_ 82 (List._∷_ 101 (List._∷_ 102 (List._∷_
-      117 (List._∷_ 115 (List._∷_ 97 (List._∷_ 108 List.[])))))))))))))))) (Syntax.ttcons Syntax.tnil (Syntax.ttcons Syntax.tnil (Syntax.ttcons Syntax.tnil (Syntax.ttcons Syntax.tnil
+      (List._∷_ 95 (List._∷_ 107 (List._∷_ 104 (List._∷_ 97 (List._∷_ 110 (List._∷_ 110 (List._∷_ 97 (List._∷_ 95 (List._∷_ 116 (List._∷_ 111 (List._∷_ 108 (List._∷_ 100 (List._∷_ 58
+      (List._∷_ 58 (List._∷_ 65 (List._∷_ 110 (List._∷_ 115 (List._∷_ 119 (List._∷_ 101 (List._∷_ 114 List.[]))))))))))))))))))))))))))))) (Syntax.ttcons (Syntax.tcons (Syntax.tyInt
+      Syntax.w32) Syntax.tnil) (Syntax.ttcons (Syntax.tcons (Syntax.tyEnum (List._∷_ 114 (List._∷_ 101 (List._∷_ 102 (List._∷_ 117 (List._∷_ 115 (List._∷_ 97 (List._∷_ 108 (List._∷_
+      58 (List._∷_ 58 (List._∷_ 82 (List._∷_ 101 (List._∷_ 102 (List._∷_ 117 (List._∷_ 115 (List._∷_ 97 (List._∷_ 108 List.[])))))))))))))))) (Syntax.ttcons Syntax.tnil
       (Syntax.ttcons Syntax.tnil (Syntax.ttcons Syntax.tnil (Syntax.ttcons Syntax.tnil (Syntax.ttcons Syntax.tnil (Syntax.ttcons Syntax.tnil (Syntax.ttcons Syntax.tnil (Syntax.ttcons
-      Syntax.tnil (Syntax.ttcons Syntax.tnil Syntax.ttnil))))))))))))) Syntax.tnil) Syntax.ttnil))),
-) (List._∷_ (1, Rows'.whole (Declared'.row Stream.the-type)) (List._∷_ (
-  2,
-  Rows'.sslice Of.R (Syntax.tyRef (Syntax.named 0) Syntax.imm Of.tyBy) 0,
-) (List._∷_ (3, Rows'.sc-here (Row.sInt Syntax.w64)) (List._∷_ (
-  4,
-  Rows'.whole (Declared.row
-      Question.the-type),
-) (List._∷_ (5, Rows'.any-gone (Syntax.tyArray (Syntax.tyArray (Syntax.tyInt Syntax.w32) 3) 256)) (List._∷_ (
-  6,
-  Rows.arrF (Array'.Array (Referent.rtF
-      (Referent.fInt Syntax.w32)) 3) 4096 0,
-) (List._∷_ (7, Rows'.any-gone Syntax.tyBool) (List._∷_ (8, Rows'.any-gone (Syntax.tyArray (Syntax.tyInt Syntax.w32) 3)) (List._∷_ (
+      Syntax.tnil (Syntax.ttcons Syntax.tnil (Syntax.ttcons Syntax.tnil (Syntax.ttcons Syntax.tnil (Syntax.ttcons Syntax.tnil Syntax.ttnil))))))))))))) Syntax.tnil) Syntax.ttnil))),
+) (List._∷_ (1, Rows'.whole (Declared'.row Stream.the-type)) (List._∷_ (2, Rows'.sslice Of.R (Syntax.tyRef (Syntax.named 0) Syntax.imm Of.tyBy) 0) (List._∷_ (
+  3,
+  Rows'.sc-here (Row.sInt Syntax.w64),
+) (List._∷_ (4, Rows'.whole (Declared.row Question.the-type)) (List._∷_ (
+  5,
+  Rows'.any-gone (Syntax.tyArray (Syntax.tyArray (Syntax.tyInt
+      Syntax.w32) 3) 256),
+) (List._∷_ (6, Rows.arrF (Array'.Array (Referent.rtF (Referent.fInt Syntax.w32)) 3) 4096 0) (List._∷_ (7, Rows'.any-gone Syntax.tyBool) (List._∷_ (
+  8,
+  Rows'.any-gone (Syntax.tyArray (Syntax.tyInt Syntax.w32) 3),
+) (List._∷_ (
   9,
-  Rows'.any-gone (Syntax.tyRef Syntax.erased Syntax.mut (Syntax.tyArray (Syntax.tyArray (Syntax.tyInt Syntax.w32) 3) 256)),
+  Rows'.any-gone (Syntax.tyRef Syntax.erased Syntax.mut (Syntax.tyArray (Syntax.tyArray
+      (Syntax.tyInt Syntax.w32) 3) 256)),
 ) (List._∷_ (
   10,
-  Rows'.any-gone (Syntax.tyStruct
-      (List._∷_ 38 (List._∷_ 91 (List._∷_ 93 List.[]))) (Syntax.tcons (Syntax.tyRef Syntax.erased Syntax.mut (Syntax.tyArray (Syntax.tyInt Syntax.w32) 3)) (Syntax.tcons (Syntax.tyInt
-      Syntax.w64) Syntax.tnil))),
-) (List._∷_ (11, Rows.arrF (Referent.rtF (Referent.fInt Syntax.w32)) 3 0) (List._∷_ (
-  12,
-  Rows'.any-gone (Syntax.tyRef Syntax.erased Syntax.mut
-      (Syntax.tyArray (Syntax.tyArray (Syntax.tyInt Syntax.w32) 3) 4096)),
+  Rows'.any-gone (Syntax.tyStruct (List._∷_ 38 (List._∷_ 91 (List._∷_ 93 List.[]))) (Syntax.tcons (Syntax.tyRef
+      Syntax.erased Syntax.mut (Syntax.tyArray (Syntax.tyInt Syntax.w32) 3)) (Syntax.tcons (Syntax.tyInt Syntax.w64) Syntax.tnil))),
 ) (List._∷_ (
-  13,
-  Rows'.any-gone (Syntax.tyStruct (List._∷_ 38 (List._∷_ 91 (List._∷_ 93 List.[])))
-      (Syntax.tcons (Syntax.tyRef Syntax.erased Syntax.mut (Syntax.tyArray (Syntax.tyInt Syntax.w32) 3)) (Syntax.tcons (Syntax.tyInt Syntax.w64) Syntax.tnil))),
-)
-    List.[])))))))))))))
+  11,
+  Rows.arrF (Referent.rtF
+      (Referent.fInt Syntax.w32)) 3 0,
+) (List._∷_ (12, Rows'.any-gone (Syntax.tyRef Syntax.erased Syntax.mut (Syntax.tyArray (Syntax.tyArray (Syntax.tyInt Syntax.w32) 3) 4096)))
+    (List._∷_ (
+      13,
+      Rows'.any-gone (Syntax.tyStruct (List._∷_ 38 (List._∷_ 91 (List._∷_ 93 List.[]))) (Syntax.tcons (Syntax.tyRef Syntax.erased Syntax.mut (Syntax.tyArray
+          (Syntax.tyInt Syntax.w32) 3)) (Syntax.tcons (Syntax.tyInt Syntax.w64) Syntax.tnil))),
+    ) List.[])))))))))))))
 
 abbrev pub t19 : List.List Row.Entry
 t19 = List._∷_ (
   0,
   Rows'.any-gone (Syntax.tyEnum (List._∷_ 103 (List._∷_ 114 (List._∷_ 101 (List._∷_ 101 (List._∷_ 110 (List._∷_ 119 (List._∷_ 97 (List._∷_ 108 (List._∷_ 100
-      (List._∷_ 95 (List._∷_ 107 (List._∷_ 104 (List._∷_ 97 (List._∷_ 110 (List._∷_ 110 (List._∷_ 97 (List._∷_ 58 (List._∷_ 58 (List._∷_ 65 (List._∷_ 110 (List._∷_ 115 (List._∷_ 119
-      (List._∷_ 101 (List._∷_ 114 List.[])))))))))))))))))))))))) (Syntax.ttcons (Syntax.tcons (Syntax.tyInt Syntax.w32) Syntax.tnil) (Syntax.ttcons (Syntax.tcons (Syntax.tyEnum
-      (List._∷_ 114 (List._∷_ 101 (List._∷_ 102 (List._∷_ 117 (List._∷_ 115 (List._∷_ 97 (List._∷_ 108 (List._∷_ 58 (List._∷_ 58 (List._∷_ 82 (List._∷_ 101 (List._∷_ 102 (List._∷_
-      117 (List._∷_ 115 (List._∷_ 97 (List._∷_ 108 List.[])))))))))))))))) (Syntax.ttcons Syntax.tnil (Syntax.ttcons Syntax.tnil (Syntax.ttcons Syntax.tnil (Syntax.ttcons Syntax.tnil
+      (List._∷_ 95 (List._∷_ 107 (List._∷_ 104 (List._∷_ 97 (List._∷_ 110 (List._∷_ 110 (List._∷_ 97 (List._∷_ 95 (List._∷_ 116 (List._∷_ 111 (List._∷_ 108 (List._∷_ 100 (List._∷_ 58
+      (List._∷_ 58 (List._∷_ 65 (List._∷_ 110 (List._∷_ 115 (List._∷_ 119 (List._∷_ 101 (List._∷_ 114 List.[]))))))))))))))))))))))))))))) (Syntax.ttcons (Syntax.tcons (Syntax.tyInt
+      Syntax.w32) Syntax.tnil) (Syntax.ttcons (Syntax.tcons (Syntax.tyEnum (List._∷_ 114 (List._∷_ 101 (List._∷_ 102 (List._∷_ 117 (List._∷_ 115 (List._∷_ 97 (List._∷_ 108 (List._∷_
+      58 (List._∷_ 58 (List._∷_ 82 (List._∷_ 101 (List._∷_ 102 (List._∷_ 117 (List._∷_ 115 (List._∷_ 97 (List._∷_ 108 List.[])))))))))))))))) (Syntax.ttcons Syntax.tnil
       (Syntax.ttcons Syntax.tnil (Syntax.ttcons Syntax.tnil (Syntax.ttcons Syntax.tnil (Syntax.ttcons Syntax.tnil (Syntax.ttcons Syntax.tnil (Syntax.ttcons Syntax.tnil (Syntax.ttcons
-      Syntax.tnil (Syntax.ttcons Syntax.tnil Syntax.ttnil))))))))))))) Syntax.tnil) Syntax.ttnil))),
-) (List._∷_ (1, Rows'.whole (Declared'.row Stream.the-type)) (List._∷_ (
-  2,
-  Rows'.sslice Of.R (Syntax.tyRef (Syntax.named 0) Syntax.imm Of.tyBy) 0,
-) (List._∷_ (3, Rows'.sc-here (Row.sInt Syntax.w64)) (List._∷_ (
-  4,
-  Rows'.whole (Declared.row
-      Question.the-type),
-) (List._∷_ (5, Rows'.any-gone (Syntax.tyArray (Syntax.tyArray (Syntax.tyInt Syntax.w32) 3) 256)) (List._∷_ (
-  6,
-  Rows.arrF (Array'.Array (Referent.rtF
-      (Referent.fInt Syntax.w32)) 3) 4096 0,
-) (List._∷_ (7, Rows'.any-gone Syntax.tyBool) (List._∷_ (8, Rows'.any-gone (Syntax.tyArray (Syntax.tyInt Syntax.w32) 3)) (List._∷_ (
+      Syntax.tnil (Syntax.ttcons Syntax.tnil (Syntax.ttcons Syntax.tnil (Syntax.ttcons Syntax.tnil (Syntax.ttcons Syntax.tnil Syntax.ttnil))))))))))))) Syntax.tnil) Syntax.ttnil))),
+) (List._∷_ (1, Rows'.whole (Declared'.row Stream.the-type)) (List._∷_ (2, Rows'.sslice Of.R (Syntax.tyRef (Syntax.named 0) Syntax.imm Of.tyBy) 0) (List._∷_ (
+  3,
+  Rows'.sc-here (Row.sInt Syntax.w64),
+) (List._∷_ (4, Rows'.whole (Declared.row Question.the-type)) (List._∷_ (
+  5,
+  Rows'.any-gone (Syntax.tyArray (Syntax.tyArray (Syntax.tyInt
+      Syntax.w32) 3) 256),
+) (List._∷_ (6, Rows.arrF (Array'.Array (Referent.rtF (Referent.fInt Syntax.w32)) 3) 4096 0) (List._∷_ (7, Rows'.any-gone Syntax.tyBool) (List._∷_ (
+  8,
+  Rows'.any-gone (Syntax.tyArray (Syntax.tyInt Syntax.w32) 3),
+) (List._∷_ (
   9,
-  Rows'.any-gone (Syntax.tyRef Syntax.erased Syntax.mut (Syntax.tyArray (Syntax.tyArray (Syntax.tyInt Syntax.w32) 3) 256)),
+  Rows'.any-gone (Syntax.tyRef Syntax.erased Syntax.mut (Syntax.tyArray (Syntax.tyArray
+      (Syntax.tyInt Syntax.w32) 3) 256)),
 ) (List._∷_ (
   10,
-  Rows'.any-gone (Syntax.tyStruct
-      (List._∷_ 38 (List._∷_ 91 (List._∷_ 93 List.[]))) (Syntax.tcons (Syntax.tyRef Syntax.erased Syntax.mut (Syntax.tyArray (Syntax.tyInt Syntax.w32) 3)) (Syntax.tcons (Syntax.tyInt
-      Syntax.w64) Syntax.tnil))),
-) (List._∷_ (11, Rows'.any-gone (Syntax.tyArray (Syntax.tyInt Syntax.w32) 3)) (List._∷_ (
-  12,
-  Rows'.any-gone (Syntax.tyRef Syntax.erased Syntax.mut
-      (Syntax.tyArray (Syntax.tyArray (Syntax.tyInt Syntax.w32) 3) 4096)),
+  Rows'.any-gone (Syntax.tyStruct (List._∷_ 38 (List._∷_ 91 (List._∷_ 93 List.[]))) (Syntax.tcons (Syntax.tyRef
+      Syntax.erased Syntax.mut (Syntax.tyArray (Syntax.tyInt Syntax.w32) 3)) (Syntax.tcons (Syntax.tyInt Syntax.w64) Syntax.tnil))),
 ) (List._∷_ (
-  13,
-  Rows'.any-gone (Syntax.tyStruct (List._∷_ 38 (List._∷_ 91 (List._∷_ 93 List.[])))
-      (Syntax.tcons (Syntax.tyRef Syntax.erased Syntax.mut (Syntax.tyArray (Syntax.tyInt Syntax.w32) 3)) (Syntax.tcons (Syntax.tyInt Syntax.w64) Syntax.tnil))),
-)
-    List.[])))))))))))))
+  11,
+  Rows'.any-gone (Syntax.tyArray
+      (Syntax.tyInt Syntax.w32) 3),
+) (List._∷_ (12, Rows'.any-gone (Syntax.tyRef Syntax.erased Syntax.mut (Syntax.tyArray (Syntax.tyArray (Syntax.tyInt Syntax.w32) 3) 4096)))
+    (List._∷_ (
+      13,
+      Rows'.any-gone (Syntax.tyStruct (List._∷_ 38 (List._∷_ 91 (List._∷_ 93 List.[]))) (Syntax.tcons (Syntax.tyRef Syntax.erased Syntax.mut (Syntax.tyArray
+          (Syntax.tyInt Syntax.w32) 3)) (Syntax.tcons (Syntax.tyInt Syntax.w64) Syntax.tnil))),
+    ) List.[])))))))))))))
 
 abbrev pub t20 : List.List Row.Entry
 t20 = List._∷_ (
   0,
   Rows'.any-gone (Syntax.tyEnum (List._∷_ 103 (List._∷_ 114 (List._∷_ 101 (List._∷_ 101 (List._∷_ 110 (List._∷_ 119 (List._∷_ 97 (List._∷_ 108 (List._∷_ 100
-      (List._∷_ 95 (List._∷_ 107 (List._∷_ 104 (List._∷_ 97 (List._∷_ 110 (List._∷_ 110 (List._∷_ 97 (List._∷_ 58 (List._∷_ 58 (List._∷_ 65 (List._∷_ 110 (List._∷_ 115 (List._∷_ 119
-      (List._∷_ 101 (List._∷_ 114 List.[])))))))))))))))))))))))) (Syntax.ttcons (Syntax.tcons (Syntax.tyInt Syntax.w32) Syntax.tnil) (Syntax.ttcons (Syntax.tcons (Syntax.tyEnum
-      (List._∷_ 114 (List._∷_ 101 (List._∷_ 102 (List._∷_ 117 (List._∷_ 115 (List._∷_ 97 (List._∷_ 108 (List._∷_ 58 (List._∷_ 58 (List._∷_ 82 (List._∷_ 101 (List._∷_ 102 (List._∷_
-      117 (List._∷_ 115 (List._∷_ 97 (List._∷_ 108 List.[])))))))))))))))) (Syntax.ttcons Syntax.tnil (Syntax.ttcons Syntax.tnil (Syntax.ttcons Syntax.tnil (Syntax.ttcons Syntax.tnil
+      (List._∷_ 95 (List._∷_ 107 (List._∷_ 104 (List._∷_ 97 (List._∷_ 110 (List._∷_ 110 (List._∷_ 97 (List._∷_ 95 (List._∷_ 116 (List._∷_ 111 (List._∷_ 108 (List._∷_ 100 (List._∷_ 58
+      (List._∷_ 58 (List._∷_ 65 (List._∷_ 110 (List._∷_ 115 (List._∷_ 119 (List._∷_ 101 (List._∷_ 114 List.[]))))))))))))))))))))))))))))) (Syntax.ttcons (Syntax.tcons (Syntax.tyInt
+      Syntax.w32) Syntax.tnil) (Syntax.ttcons (Syntax.tcons (Syntax.tyEnum (List._∷_ 114 (List._∷_ 101 (List._∷_ 102 (List._∷_ 117 (List._∷_ 115 (List._∷_ 97 (List._∷_ 108 (List._∷_
+      58 (List._∷_ 58 (List._∷_ 82 (List._∷_ 101 (List._∷_ 102 (List._∷_ 117 (List._∷_ 115 (List._∷_ 97 (List._∷_ 108 List.[])))))))))))))))) (Syntax.ttcons Syntax.tnil
       (Syntax.ttcons Syntax.tnil (Syntax.ttcons Syntax.tnil (Syntax.ttcons Syntax.tnil (Syntax.ttcons Syntax.tnil (Syntax.ttcons Syntax.tnil (Syntax.ttcons Syntax.tnil (Syntax.ttcons
-      Syntax.tnil (Syntax.ttcons Syntax.tnil Syntax.ttnil))))))))))))) Syntax.tnil) Syntax.ttnil))),
-) (List._∷_ (1, Rows'.whole (Declared'.row Stream.the-type)) (List._∷_ (
-  2,
-  Rows'.sslice Of.R (Syntax.tyRef (Syntax.named 0) Syntax.imm Of.tyBy) 0,
-) (List._∷_ (3, Rows'.sc-here (Row.sInt Syntax.w64)) (List._∷_ (
-  4,
-  Rows'.whole (Declared.row
-      Question.the-type),
-) (List._∷_ (5, Rows'.any-gone (Syntax.tyArray (Syntax.tyArray (Syntax.tyInt Syntax.w32) 3) 256)) (List._∷_ (
-  6,
-  Rows.arr-owed (Array'.Array
-      (Referent.rtF (Referent.fInt Syntax.w32)) 3) 4096 2,
-) (List._∷_ (7, Rows'.any-gone Syntax.tyBool) (List._∷_ (8, Rows'.any-gone (Syntax.tyArray (Syntax.tyInt Syntax.w32) 3))
-    (List._∷_ (9, Rows'.any-gone (Syntax.tyRef Syntax.erased Syntax.mut (Syntax.tyArray (Syntax.tyArray (Syntax.tyInt Syntax.w32) 3) 256))) (List._∷_ (
-      10,
-      Rows'.any-gone
-          (Syntax.tyStruct (List._∷_ 38 (List._∷_ 91 (List._∷_ 93 List.[]))) (Syntax.tcons (Syntax.tyRef Syntax.erased Syntax.mut (Syntax.tyArray (Syntax.tyInt Syntax.w32) 3))
-          (Syntax.tcons (Syntax.tyInt Syntax.w64) Syntax.tnil))),
-    ) (List._∷_ (11, Rows'.any-gone (Syntax.tyArray (Syntax.tyInt Syntax.w32) 3)) (List._∷_ (
-      12,
-      Relend.msptr (Array'.Array
-          (Referent.rtF (Referent.fInt Syntax.w32)) 3) (Syntax.tyRef Syntax.erased Syntax.mut (Syntax.tyArray (Syntax.tyArray (Syntax.tyInt Syntax.w32) 3) 4096)) 2,
-    ) (List._∷_ (
-      13,
-      Rows'.any-gone (Syntax.tyStruct (List._∷_ 38 (List._∷_ 91 (List._∷_ 93 List.[]))) (Syntax.tcons (Syntax.tyRef Syntax.erased Syntax.mut (Syntax.tyArray (Syntax.tyInt Syntax.w32)
-          3)) (Syntax.tcons (Syntax.tyInt Syntax.w64) Syntax.tnil))),
-    ) List.[])))))))))))))
+      Syntax.tnil (Syntax.ttcons Syntax.tnil (Syntax.ttcons Syntax.tnil (Syntax.ttcons Syntax.tnil (Syntax.ttcons Syntax.tnil Syntax.ttnil))))))))))))) Syntax.tnil) Syntax.ttnil))),
+) (List._∷_ (1, Rows'.whole (Declared'.row Stream.the-type)) (List._∷_ (2, Rows'.sslice Of.R (Syntax.tyRef (Syntax.named 0) Syntax.imm Of.tyBy) 0) (List._∷_ (
+  3,
+  Rows'.sc-here (Row.sInt Syntax.w64),
+) (List._∷_ (4, Rows'.whole (Declared.row Question.the-type)) (List._∷_ (
+  5,
+  Rows'.any-gone (Syntax.tyArray (Syntax.tyArray (Syntax.tyInt
+      Syntax.w32) 3) 256),
+) (List._∷_ (6, Rows.arr-owed (Array'.Array (Referent.rtF (Referent.fInt Syntax.w32)) 3) 4096 2) (List._∷_ (7, Rows'.any-gone Syntax.tyBool) (List._∷_ (
+  8,
+  Rows'.any-gone (Syntax.tyArray (Syntax.tyInt Syntax.w32) 3),
+) (List._∷_ (
+  9,
+  Rows'.any-gone (Syntax.tyRef Syntax.erased Syntax.mut (Syntax.tyArray (Syntax.tyArray
+      (Syntax.tyInt Syntax.w32) 3) 256)),
+) (List._∷_ (
+  10,
+  Rows'.any-gone (Syntax.tyStruct (List._∷_ 38 (List._∷_ 91 (List._∷_ 93 List.[]))) (Syntax.tcons (Syntax.tyRef
+      Syntax.erased Syntax.mut (Syntax.tyArray (Syntax.tyInt Syntax.w32) 3)) (Syntax.tcons (Syntax.tyInt Syntax.w64) Syntax.tnil))),
+) (List._∷_ (
+  11,
+  Rows'.any-gone (Syntax.tyArray
+      (Syntax.tyInt Syntax.w32) 3),
+) (List._∷_ (
+  12,
+  Relend.msptr (Array'.Array (Referent.rtF (Referent.fInt Syntax.w32)) 3) (Syntax.tyRef Syntax.erased Syntax.mut (Syntax.tyArray
+      (Syntax.tyArray (Syntax.tyInt Syntax.w32) 3) 4096)) 2,
+) (List._∷_ (
+  13,
+  Rows'.any-gone (Syntax.tyStruct (List._∷_ 38 (List._∷_ 91 (List._∷_ 93 List.[]))) (Syntax.tcons
+      (Syntax.tyRef Syntax.erased Syntax.mut (Syntax.tyArray (Syntax.tyInt Syntax.w32) 3)) (Syntax.tcons (Syntax.tyInt Syntax.w64) Syntax.tnil))),
+) List.[])))))))))))))
 
 abbrev pub t21 : List.List Row.Entry
 t21 = List._∷_ (
   0,
   Rows'.any-gone (Syntax.tyEnum (List._∷_ 103 (List._∷_ 114 (List._∷_ 101 (List._∷_ 101 (List._∷_ 110 (List._∷_ 119 (List._∷_ 97 (List._∷_ 108 (List._∷_ 100
-      (List._∷_ 95 (List._∷_ 107 (List._∷_ 104 (List._∷_ 97 (List._∷_ 110 (List._∷_ 110 (List._∷_ 97 (List._∷_ 58 (List._∷_ 58 (List._∷_ 65 (List._∷_ 110 (List._∷_ 115 (List._∷_ 119
-      (List._∷_ 101 (List._∷_ 114 List.[])))))))))))))))))))))))) (Syntax.ttcons (Syntax.tcons (Syntax.tyInt Syntax.w32) Syntax.tnil) (Syntax.ttcons (Syntax.tcons (Syntax.tyEnum
-      (List._∷_ 114 (List._∷_ 101 (List._∷_ 102 (List._∷_ 117 (List._∷_ 115 (List._∷_ 97 (List._∷_ 108 (List._∷_ 58 (List._∷_ 58 (List._∷_ 82 (List._∷_ 101 (List._∷_ 102 (List._∷_
-      117 (List._∷_ 115 (List._∷_ 97 (List._∷_ 108 List.[])))))))))))))))) (Syntax.ttcons Syntax.tnil (Syntax.ttcons Syntax.tnil (Syntax.ttcons Syntax.tnil (Syntax.ttcons Syntax.tnil
+      (List._∷_ 95 (List._∷_ 107 (List._∷_ 104 (List._∷_ 97 (List._∷_ 110 (List._∷_ 110 (List._∷_ 97 (List._∷_ 95 (List._∷_ 116 (List._∷_ 111 (List._∷_ 108 (List._∷_ 100 (List._∷_ 58
+      (List._∷_ 58 (List._∷_ 65 (List._∷_ 110 (List._∷_ 115 (List._∷_ 119 (List._∷_ 101 (List._∷_ 114 List.[]))))))))))))))))))))))))))))) (Syntax.ttcons (Syntax.tcons (Syntax.tyInt
+      Syntax.w32) Syntax.tnil) (Syntax.ttcons (Syntax.tcons (Syntax.tyEnum (List._∷_ 114 (List._∷_ 101 (List._∷_ 102 (List._∷_ 117 (List._∷_ 115 (List._∷_ 97 (List._∷_ 108 (List._∷_
+      58 (List._∷_ 58 (List._∷_ 82 (List._∷_ 101 (List._∷_ 102 (List._∷_ 117 (List._∷_ 115 (List._∷_ 97 (List._∷_ 108 List.[])))))))))))))))) (Syntax.ttcons Syntax.tnil
       (Syntax.ttcons Syntax.tnil (Syntax.ttcons Syntax.tnil (Syntax.ttcons Syntax.tnil (Syntax.ttcons Syntax.tnil (Syntax.ttcons Syntax.tnil (Syntax.ttcons Syntax.tnil (Syntax.ttcons
-      Syntax.tnil (Syntax.ttcons Syntax.tnil Syntax.ttnil))))))))))))) Syntax.tnil) Syntax.ttnil))),
-) (List._∷_ (1, Rows'.whole (Declared'.row Stream.the-type)) (List._∷_ (
-  2,
-  Rows'.sslice Of.R (Syntax.tyRef (Syntax.named 0) Syntax.imm Of.tyBy) 0,
-) (List._∷_ (3, Rows'.sc-here (Row.sInt Syntax.w64)) (List._∷_ (
-  4,
-  Rows'.whole (Declared.row
-      Question.the-type),
-) (List._∷_ (5, Rows'.any-gone (Syntax.tyArray (Syntax.tyArray (Syntax.tyInt Syntax.w32) 3) 256)) (List._∷_ (
-  6,
-  Rows.arr-owed (Array'.Array
-      (Referent.rtF (Referent.fInt Syntax.w32)) 3) 4096 2,
-) (List._∷_ (7, Rows'.any-gone Syntax.tyBool) (List._∷_ (8, Rows'.any-gone (Syntax.tyArray (Syntax.tyInt Syntax.w32) 3))
-    (List._∷_ (9, Rows'.any-gone (Syntax.tyRef Syntax.erased Syntax.mut (Syntax.tyArray (Syntax.tyArray (Syntax.tyInt Syntax.w32) 3) 256))) (List._∷_ (
-      10,
-      Rows'.any-gone
-          (Syntax.tyStruct (List._∷_ 38 (List._∷_ 91 (List._∷_ 93 List.[]))) (Syntax.tcons (Syntax.tyRef Syntax.erased Syntax.mut (Syntax.tyArray (Syntax.tyInt Syntax.w32) 3))
-          (Syntax.tcons (Syntax.tyInt Syntax.w64) Syntax.tnil))),
-    ) (List._∷_ (11, Rows'.any-gone (Syntax.tyArray (Syntax.tyInt Syntax.w32) 3)) (List._∷_ (
-      12,
-      Rows'.any-gone
-          (Syntax.tyRef Syntax.erased Syntax.mut (Syntax.tyArray (Syntax.tyArray (Syntax.tyInt Syntax.w32) 3) 4096)),
-    ) (List._∷_ (
-      13,
-      Mut.mslice (Array'.Array (Referent.rtF
-          (Referent.fInt Syntax.w32)) 3) (Syntax.tyRef Syntax.erased Syntax.mut (Syntax.tyArray (Syntax.tyInt Syntax.w32) 3)) 2,
-    ) List.[])))))))))))))
+      Syntax.tnil (Syntax.ttcons Syntax.tnil (Syntax.ttcons Syntax.tnil (Syntax.ttcons Syntax.tnil (Syntax.ttcons Syntax.tnil Syntax.ttnil))))))))))))) Syntax.tnil) Syntax.ttnil))),
+) (List._∷_ (1, Rows'.whole (Declared'.row Stream.the-type)) (List._∷_ (2, Rows'.sslice Of.R (Syntax.tyRef (Syntax.named 0) Syntax.imm Of.tyBy) 0) (List._∷_ (
+  3,
+  Rows'.sc-here (Row.sInt Syntax.w64),
+) (List._∷_ (4, Rows'.whole (Declared.row Question.the-type)) (List._∷_ (
+  5,
+  Rows'.any-gone (Syntax.tyArray (Syntax.tyArray (Syntax.tyInt
+      Syntax.w32) 3) 256),
+) (List._∷_ (6, Rows.arr-owed (Array'.Array (Referent.rtF (Referent.fInt Syntax.w32)) 3) 4096 2) (List._∷_ (7, Rows'.any-gone Syntax.tyBool) (List._∷_ (
+  8,
+  Rows'.any-gone (Syntax.tyArray (Syntax.tyInt Syntax.w32) 3),
+) (List._∷_ (
+  9,
+  Rows'.any-gone (Syntax.tyRef Syntax.erased Syntax.mut (Syntax.tyArray (Syntax.tyArray
+      (Syntax.tyInt Syntax.w32) 3) 256)),
+) (List._∷_ (
+  10,
+  Rows'.any-gone (Syntax.tyStruct (List._∷_ 38 (List._∷_ 91 (List._∷_ 93 List.[]))) (Syntax.tcons (Syntax.tyRef
+      Syntax.erased Syntax.mut (Syntax.tyArray (Syntax.tyInt Syntax.w32) 3)) (Syntax.tcons (Syntax.tyInt Syntax.w64) Syntax.tnil))),
+) (List._∷_ (
+  11,
+  Rows'.any-gone (Syntax.tyArray
+      (Syntax.tyInt Syntax.w32) 3),
+) (List._∷_ (12, Rows'.any-gone (Syntax.tyRef Syntax.erased Syntax.mut (Syntax.tyArray (Syntax.tyArray (Syntax.tyInt Syntax.w32) 3) 4096)))
+    (List._∷_ (13, Mut.mslice (Array'.Array (Referent.rtF (Referent.fInt Syntax.w32)) 3) (Syntax.tyRef Syntax.erased Syntax.mut (Syntax.tyArray (Syntax.tyInt Syntax.w32) 3)) 2)
+    List.[])))))))))))))
 
 abbrev pub t22 : List.List Row.Entry
 t22 = List._∷_ (0, Rows'.whole (Declared.row Answer.the-type)) (List._∷_ (1, Rows'.whole (Declared'.row Stream.the-type)) (List._∷_ (
@@ -1456,12 +1455,12 @@ module _ (claims· : Claims) where
     ),
   ) 0 (List._∷_ 0 (List._∷_ 1 List.[])) (Syntax.tyEnum (List._∷_ 103 (List._∷_ 114 (List._∷_ 101
       (List._∷_ 101 (List._∷_ 110 (List._∷_ 119 (List._∷_ 97 (List._∷_ 108 (List._∷_ 100 (List._∷_ 95 (List._∷_ 107 (List._∷_ 104 (List._∷_ 97 (List._∷_ 110 (List._∷_ 110 (List._∷_
-      97 (List._∷_ 58 (List._∷_ 58 (List._∷_ 65 (List._∷_ 110 (List._∷_ 115 (List._∷_ 119 (List._∷_ 101 (List._∷_ 114 List.[])))))))))))))))))))))))) (Syntax.ttcons (Syntax.tcons
-      (Syntax.tyInt Syntax.w32) Syntax.tnil) (Syntax.ttcons (Syntax.tcons (Syntax.tyEnum (List._∷_ 114 (List._∷_ 101 (List._∷_ 102 (List._∷_ 117 (List._∷_ 115 (List._∷_ 97
-      (List._∷_ 108 (List._∷_ 58 (List._∷_ 58 (List._∷_ 82 (List._∷_ 101 (List._∷_ 102 (List._∷_ 117 (List._∷_ 115 (List._∷_ 97 (List._∷_ 108 List.[])))))))))))))))) (Syntax.ttcons
-      Syntax.tnil (Syntax.ttcons Syntax.tnil (Syntax.ttcons Syntax.tnil (Syntax.ttcons Syntax.tnil (Syntax.ttcons Syntax.tnil (Syntax.ttcons Syntax.tnil (Syntax.ttcons Syntax.tnil
-      (Syntax.ttcons Syntax.tnil (Syntax.ttcons Syntax.tnil (Syntax.ttcons Syntax.tnil (Syntax.ttcons Syntax.tnil (Syntax.ttcons Syntax.tnil Syntax.ttnil))))))))))))) Syntax.tnil)
-      Syntax.ttnil)))
+      97 (List._∷_ 95 (List._∷_ 116 (List._∷_ 111 (List._∷_ 108 (List._∷_ 100 (List._∷_ 58 (List._∷_ 58 (List._∷_ 65 (List._∷_ 110 (List._∷_ 115 (List._∷_ 119 (List._∷_ 101
+      (List._∷_ 114 List.[]))))))))))))))))))))))))))))) (Syntax.ttcons (Syntax.tcons (Syntax.tyInt Syntax.w32) Syntax.tnil) (Syntax.ttcons (Syntax.tcons (Syntax.tyEnum (List._∷_
+      114 (List._∷_ 101 (List._∷_ 102 (List._∷_ 117 (List._∷_ 115 (List._∷_ 97 (List._∷_ 108 (List._∷_ 58 (List._∷_ 58 (List._∷_ 82 (List._∷_ 101 (List._∷_ 102 (List._∷_ 117
+      (List._∷_ 115 (List._∷_ 97 (List._∷_ 108 List.[])))))))))))))))) (Syntax.ttcons Syntax.tnil (Syntax.ttcons Syntax.tnil (Syntax.ttcons Syntax.tnil (Syntax.ttcons Syntax.tnil
+      (Syntax.ttcons Syntax.tnil (Syntax.ttcons Syntax.tnil (Syntax.ttcons Syntax.tnil (Syntax.ttcons Syntax.tnil (Syntax.ttcons Syntax.tnil (Syntax.ttcons Syntax.tnil
+      (Syntax.ttcons Syntax.tnil (Syntax.ttcons Syntax.tnil Syntax.ttnil))))))))))))) Syntax.tnil) Syntax.ttnil)))
 
   abbrev s11 : (bs : List.List Nat.ℕ) → Typed.Mo T13 → Typed.Mo T14
   s11 = λ bs. Scalar.n-room T13 1 (Syntax.tyStruct (List._∷_ 103 (List._∷_ 114 (List._∷_ 101 (List._∷_ 101 (List._∷_ 110 (List._∷_ 119 (List._∷_ 97 (List._∷_ 108 (List._∷_ 100
@@ -1542,12 +1541,12 @@ module _ (claims· : Claims) where
     ),
   ) 0 (List._∷_ 0 (List._∷_ 2 List.[])) (Syntax.tyEnum (List._∷_ 103 (List._∷_ 114 (List._∷_ 101
       (List._∷_ 101 (List._∷_ 110 (List._∷_ 119 (List._∷_ 97 (List._∷_ 108 (List._∷_ 100 (List._∷_ 95 (List._∷_ 107 (List._∷_ 104 (List._∷_ 97 (List._∷_ 110 (List._∷_ 110 (List._∷_
-      97 (List._∷_ 58 (List._∷_ 58 (List._∷_ 65 (List._∷_ 110 (List._∷_ 115 (List._∷_ 119 (List._∷_ 101 (List._∷_ 114 List.[])))))))))))))))))))))))) (Syntax.ttcons (Syntax.tcons
-      (Syntax.tyInt Syntax.w32) Syntax.tnil) (Syntax.ttcons (Syntax.tcons (Syntax.tyEnum (List._∷_ 114 (List._∷_ 101 (List._∷_ 102 (List._∷_ 117 (List._∷_ 115 (List._∷_ 97
-      (List._∷_ 108 (List._∷_ 58 (List._∷_ 58 (List._∷_ 82 (List._∷_ 101 (List._∷_ 102 (List._∷_ 117 (List._∷_ 115 (List._∷_ 97 (List._∷_ 108 List.[])))))))))))))))) (Syntax.ttcons
-      Syntax.tnil (Syntax.ttcons Syntax.tnil (Syntax.ttcons Syntax.tnil (Syntax.ttcons Syntax.tnil (Syntax.ttcons Syntax.tnil (Syntax.ttcons Syntax.tnil (Syntax.ttcons Syntax.tnil
-      (Syntax.ttcons Syntax.tnil (Syntax.ttcons Syntax.tnil (Syntax.ttcons Syntax.tnil (Syntax.ttcons Syntax.tnil (Syntax.ttcons Syntax.tnil Syntax.ttnil))))))))))))) Syntax.tnil)
-      Syntax.ttnil)))
+      97 (List._∷_ 95 (List._∷_ 116 (List._∷_ 111 (List._∷_ 108 (List._∷_ 100 (List._∷_ 58 (List._∷_ 58 (List._∷_ 65 (List._∷_ 110 (List._∷_ 115 (List._∷_ 119 (List._∷_ 101
+      (List._∷_ 114 List.[]))))))))))))))))))))))))))))) (Syntax.ttcons (Syntax.tcons (Syntax.tyInt Syntax.w32) Syntax.tnil) (Syntax.ttcons (Syntax.tcons (Syntax.tyEnum (List._∷_
+      114 (List._∷_ 101 (List._∷_ 102 (List._∷_ 117 (List._∷_ 115 (List._∷_ 97 (List._∷_ 108 (List._∷_ 58 (List._∷_ 58 (List._∷_ 82 (List._∷_ 101 (List._∷_ 102 (List._∷_ 117
+      (List._∷_ 115 (List._∷_ 97 (List._∷_ 108 List.[])))))))))))))))) (Syntax.ttcons Syntax.tnil (Syntax.ttcons Syntax.tnil (Syntax.ttcons Syntax.tnil (Syntax.ttcons Syntax.tnil
+      (Syntax.ttcons Syntax.tnil (Syntax.ttcons Syntax.tnil (Syntax.ttcons Syntax.tnil (Syntax.ttcons Syntax.tnil (Syntax.ttcons Syntax.tnil (Syntax.ttcons Syntax.tnil
+      (Syntax.ttcons Syntax.tnil (Syntax.ttcons Syntax.tnil Syntax.ttnil))))))))))))) Syntax.tnil) Syntax.ttnil)))
 
   abbrev s28 : (bs : List.List Nat.ℕ) → Typed.Mo T30 → Typed.Mo T31
   s28 = λ bs. Scalar.n-room T30 1 (Syntax.tyStruct (List._∷_ 103 (List._∷_ 114 (List._∷_ 101 (List._∷_ 101 (List._∷_ 110 (List._∷_ 119 (List._∷_ 97 (List._∷_ 108 (List._∷_ 100
@@ -1917,8 +1916,8 @@ module _ (claims· : Claims) where
               ) 0 (List._∷_ 0 (List._∷_ 1 List.[])) (Call.sub-id
               𝓤 H A W (G12 .slots)) (
                 (
-                  Yields.yields-copy 𝓤 H A W (λ ρ. Unit) (Declared'.row Stream.the-type) Path'.refl (Copies.cStruct Stream.the-type Laws''.the-laws
-                      Laws''.the-copy .copy 𝓤 H A W) (Rows'.whole (Declared'.row Stream.the-type)) (λ x. x) (λ x. x) (λ ρ told. Local.mem-whole 𝓤 H A W (Declared'.row Stream.the-type) ρ) λ
+                  Yields.yields-copy 𝓤 H A W (λ ρ. Unit) (Declared'.row Stream.the-type) Path'.refl (Copies.cStruct Stream.the-type Laws'.the-laws
+                      Laws'.the-copy .copy 𝓤 H A W) (Rows'.whole (Declared'.row Stream.the-type)) (λ x. x) (λ x. x) (λ ρ told. Local.mem-whole 𝓤 H A W (Declared'.row Stream.the-type) ρ) λ
                       ρ told. Local.whole-mem 𝓤 H A W (Declared'.row Stream.the-type) ρ,
                   Path'.refl,
                 ),
@@ -1941,7 +1940,7 @@ module _ (claims· : Claims) where
                       (
                         (
                           Yields.yields-copy 𝓤 H A W (λ ρ. Unit) (Declared.row Question.the-type) Path'.refl (Copies.cEnum
-                              Question.the-type Laws'.the-laws Laws'.the-copy .copy 𝓤 H A W) (Rows'.whole (Declared.row Question.the-type)) (λ x. x) (λ x. x) (λ ρ told. Local.mem-whole 𝓤 H A W
+                              Question.the-type Laws.the-laws Laws.the-copy .copy 𝓤 H A W) (Rows'.whole (Declared.row Question.the-type)) (λ x. x) (λ x. x) (λ ρ told. Local.mem-whole 𝓤 H A W
                               (Declared.row Question.the-type) ρ) λ ρ told. Local.whole-mem 𝓤 H A W (Declared.row Question.the-type) ρ,
                           Path'.refl,
                         ),
@@ -1952,12 +1951,13 @@ module _ (claims· : Claims) where
                 ),
               ) (Reads.room-gone 𝓤 H A
               (Syntax.tyEnum (List._∷_ 103 (List._∷_ 114 (List._∷_ 101 (List._∷_ 101 (List._∷_ 110 (List._∷_ 119 (List._∷_ 97 (List._∷_ 108 (List._∷_ 100 (List._∷_ 95 (List._∷_ 107
-              (List._∷_ 104 (List._∷_ 97 (List._∷_ 110 (List._∷_ 110 (List._∷_ 97 (List._∷_ 58 (List._∷_ 58 (List._∷_ 65 (List._∷_ 110 (List._∷_ 115 (List._∷_ 119 (List._∷_ 101
-              (List._∷_ 114 List.[])))))))))))))))))))))))) (Syntax.ttcons (Syntax.tcons (Syntax.tyInt Syntax.w32) Syntax.tnil) (Syntax.ttcons (Syntax.tcons (Syntax.tyEnum
-              (List._∷_ 114 (List._∷_ 101 (List._∷_ 102 (List._∷_ 117 (List._∷_ 115 (List._∷_ 97 (List._∷_ 108 (List._∷_ 58 (List._∷_ 58 (List._∷_ 82 (List._∷_ 101 (List._∷_ 102
-              (List._∷_ 117 (List._∷_ 115 (List._∷_ 97 (List._∷_ 108 List.[])))))))))))))))) (Syntax.ttcons Syntax.tnil (Syntax.ttcons Syntax.tnil (Syntax.ttcons Syntax.tnil
-              (Syntax.ttcons Syntax.tnil (Syntax.ttcons Syntax.tnil (Syntax.ttcons Syntax.tnil (Syntax.ttcons Syntax.tnil (Syntax.ttcons Syntax.tnil (Syntax.ttcons Syntax.tnil
-              (Syntax.ttcons Syntax.tnil (Syntax.ttcons Syntax.tnil (Syntax.ttcons Syntax.tnil Syntax.ttnil))))))))))))) Syntax.tnil) Syntax.ttnil)))) (tt, (tt, tt)) Path'.refl) d7
+              (List._∷_ 104 (List._∷_ 97 (List._∷_ 110 (List._∷_ 110 (List._∷_ 97 (List._∷_ 95 (List._∷_ 116 (List._∷_ 111 (List._∷_ 108 (List._∷_ 100 (List._∷_ 58 (List._∷_ 58
+              (List._∷_ 65 (List._∷_ 110 (List._∷_ 115 (List._∷_ 119 (List._∷_ 101 (List._∷_ 114 List.[]))))))))))))))))))))))))))))) (Syntax.ttcons (Syntax.tcons (Syntax.tyInt
+              Syntax.w32) Syntax.tnil) (Syntax.ttcons (Syntax.tcons (Syntax.tyEnum (List._∷_ 114 (List._∷_ 101 (List._∷_ 102 (List._∷_ 117 (List._∷_ 115 (List._∷_ 97 (List._∷_ 108
+              (List._∷_ 58 (List._∷_ 58 (List._∷_ 82 (List._∷_ 101 (List._∷_ 102 (List._∷_ 117 (List._∷_ 115 (List._∷_ 97 (List._∷_ 108 List.[])))))))))))))))) (Syntax.ttcons
+              Syntax.tnil (Syntax.ttcons Syntax.tnil (Syntax.ttcons Syntax.tnil (Syntax.ttcons Syntax.tnil (Syntax.ttcons Syntax.tnil (Syntax.ttcons Syntax.tnil (Syntax.ttcons
+              Syntax.tnil (Syntax.ttcons Syntax.tnil (Syntax.ttcons Syntax.tnil (Syntax.ttcons Syntax.tnil (Syntax.ttcons Syntax.tnil (Syntax.ttcons Syntax.tnil
+              Syntax.ttnil))))))))))))) Syntax.tnil) Syntax.ttnil)))) (tt, (tt, tt)) Path'.refl) d7
 
           d9 : Typed.Typed 𝓤 H A 𝓣 E G11 b8 Δ1 (at9 bs)
           d9 = Typed.s-seq 𝓤 H A W 𝓣 E G11 G12 b4 b7 Δ1 (Typed.ask (s9 bs)) (at8 bs) (Relend.t-sl-aggregate 𝓤 H A W E (Array'.Array (Referent.rtF (Referent.fInt Syntax.w32)) 3) 𝓣
@@ -2143,8 +2143,8 @@ module _ (claims· : Claims) where
               ) 0 (List._∷_ 0 (List._∷_ 2 List.[])) (Call.sub-id
               𝓤 H A W (G29 .slots)) (
                 (
-                  Yields.yields-copy 𝓤 H A W (λ ρ. Unit) (Declared'.row Stream.the-type) Path'.refl (Copies.cStruct Stream.the-type Laws''.the-laws
-                      Laws''.the-copy .copy 𝓤 H A W) (Rows'.whole (Declared'.row Stream.the-type)) (λ x. x) (λ x. x) (λ ρ told. Local.mem-whole 𝓤 H A W (Declared'.row Stream.the-type) ρ) λ
+                  Yields.yields-copy 𝓤 H A W (λ ρ. Unit) (Declared'.row Stream.the-type) Path'.refl (Copies.cStruct Stream.the-type Laws'.the-laws
+                      Laws'.the-copy .copy 𝓤 H A W) (Rows'.whole (Declared'.row Stream.the-type)) (λ x. x) (λ x. x) (λ ρ told. Local.mem-whole 𝓤 H A W (Declared'.row Stream.the-type) ρ) λ
                       ρ told. Local.whole-mem 𝓤 H A W (Declared'.row Stream.the-type) ρ,
                   Path'.refl,
                 ),
@@ -2167,7 +2167,7 @@ module _ (claims· : Claims) where
                       (
                         (
                           Yields.yields-copy 𝓤 H A W (λ ρ. Unit) (Declared.row Question.the-type) Path'.refl (Copies.cEnum
-                              Question.the-type Laws'.the-laws Laws'.the-copy .copy 𝓤 H A W) (Rows'.whole (Declared.row Question.the-type)) (λ x. x) (λ x. x) (λ ρ told. Local.mem-whole 𝓤 H A W
+                              Question.the-type Laws.the-laws Laws.the-copy .copy 𝓤 H A W) (Rows'.whole (Declared.row Question.the-type)) (λ x. x) (λ x. x) (λ ρ told. Local.mem-whole 𝓤 H A W
                               (Declared.row Question.the-type) ρ) λ ρ told. Local.whole-mem 𝓤 H A W (Declared.row Question.the-type) ρ,
                           Path'.refl,
                         ),
@@ -2178,13 +2178,13 @@ module _ (claims· : Claims) where
                 ),
               ) (Reads.room-gone 𝓤 H A
               (Syntax.tyEnum (List._∷_ 103 (List._∷_ 114 (List._∷_ 101 (List._∷_ 101 (List._∷_ 110 (List._∷_ 119 (List._∷_ 97 (List._∷_ 108 (List._∷_ 100 (List._∷_ 95 (List._∷_ 107
-              (List._∷_ 104 (List._∷_ 97 (List._∷_ 110 (List._∷_ 110 (List._∷_ 97 (List._∷_ 58 (List._∷_ 58 (List._∷_ 65 (List._∷_ 110 (List._∷_ 115 (List._∷_ 119 (List._∷_ 101
-              (List._∷_ 114 List.[])))))))))))))))))))))))) (Syntax.ttcons (Syntax.tcons (Syntax.tyInt Syntax.w32) Syntax.tnil) (Syntax.ttcons (Syntax.tcons (Syntax.tyEnum
-              (List._∷_ 114 (List._∷_ 101 (List._∷_ 102 (List._∷_ 117 (List._∷_ 115 (List._∷_ 97 (List._∷_ 108 (List._∷_ 58 (List._∷_ 58 (List._∷_ 82 (List._∷_ 101 (List._∷_ 102
-              (List._∷_ 117 (List._∷_ 115 (List._∷_ 97 (List._∷_ 108 List.[])))))))))))))))) (Syntax.ttcons Syntax.tnil (Syntax.ttcons Syntax.tnil (Syntax.ttcons Syntax.tnil
-              (Syntax.ttcons Syntax.tnil (Syntax.ttcons Syntax.tnil (Syntax.ttcons Syntax.tnil (Syntax.ttcons Syntax.tnil (Syntax.ttcons Syntax.tnil (Syntax.ttcons Syntax.tnil
-              (Syntax.ttcons Syntax.tnil (Syntax.ttcons Syntax.tnil (Syntax.ttcons Syntax.tnil Syntax.ttnil))))))))))))) Syntax.tnil) Syntax.ttnil)))) (tt, (tt, tt)) Path'.refl)
-              d28
+              (List._∷_ 104 (List._∷_ 97 (List._∷_ 110 (List._∷_ 110 (List._∷_ 97 (List._∷_ 95 (List._∷_ 116 (List._∷_ 111 (List._∷_ 108 (List._∷_ 100 (List._∷_ 58 (List._∷_ 58
+              (List._∷_ 65 (List._∷_ 110 (List._∷_ 115 (List._∷_ 119 (List._∷_ 101 (List._∷_ 114 List.[]))))))))))))))))))))))))))))) (Syntax.ttcons (Syntax.tcons (Syntax.tyInt
+              Syntax.w32) Syntax.tnil) (Syntax.ttcons (Syntax.tcons (Syntax.tyEnum (List._∷_ 114 (List._∷_ 101 (List._∷_ 102 (List._∷_ 117 (List._∷_ 115 (List._∷_ 97 (List._∷_ 108
+              (List._∷_ 58 (List._∷_ 58 (List._∷_ 82 (List._∷_ 101 (List._∷_ 102 (List._∷_ 117 (List._∷_ 115 (List._∷_ 97 (List._∷_ 108 List.[])))))))))))))))) (Syntax.ttcons
+              Syntax.tnil (Syntax.ttcons Syntax.tnil (Syntax.ttcons Syntax.tnil (Syntax.ttcons Syntax.tnil (Syntax.ttcons Syntax.tnil (Syntax.ttcons Syntax.tnil (Syntax.ttcons
+              Syntax.tnil (Syntax.ttcons Syntax.tnil (Syntax.ttcons Syntax.tnil (Syntax.ttcons Syntax.tnil (Syntax.ttcons Syntax.tnil (Syntax.ttcons Syntax.tnil
+              Syntax.ttnil))))))))))))) Syntax.tnil) Syntax.ttnil)))) (tt, (tt, tt)) Path'.refl) d28
 
           d30 : Typed.Typed 𝓤 H A 𝓣 E G28 b21 Δ0 (at30 bs)
           d30 = Typed.s-seq 𝓤 H A W 𝓣 E G28 G29 b17 b20 Δ0 (Typed.ask (s26 bs)) (at29 bs) (Relend.t-sl-aggregate 𝓤 H A W E (Array'.Array (Referent.rtF (Referent.fInt Syntax.w32))
@@ -2301,19 +2301,18 @@ module _ (claims· : Claims) where
           pub stream : Kinds.Den {n = 1} κs (Value.pVal record {
             ty = Declared'.row Stream.the-type;
             one = Path'.refl;
-            val = Laws'4.val Stream.the-type Laws''.the-laws;
+            val = Laws'4.val Stream.the-type Laws'.the-laws;
             tells =
-                Laws'4.tells Stream.the-type Laws''.the-laws;
-            still = Laws'4.still Stream.the-type Laws''.the-copy Exit.yes;
+                Laws'4.tells Stream.the-type Laws'.the-laws;
+            still = Laws'4.still Stream.the-type Laws'.the-copy Exit.yes;
             row = Rows'.whole (Declared'.row Stream.the-type);
             rd = λ
                 x. x;
             mk = λ x. x;
           } λ M 𝓤 H A W. record {
-            copies = Laws'4.copy Stream.the-type Laws''.the-copy 𝓤 H A W;
-            lawful = Laws'4.lawful Stream.the-type Laws''.the-laws 𝓤 H A
-                W;
-            makes = Laws'4.makes Stream.the-type Laws''.the-plain 𝓤 H A;
+            copies = Laws'4.copy Stream.the-type Laws'.the-copy 𝓤 H A W;
+            lawful = Laws'4.lawful Stream.the-type Laws'.the-laws 𝓤 H A W;
+            makes = Laws'4.makes Stream.the-type Laws'.the-plain 𝓤 H A;
             in-mem = Local.mem-whole 𝓤 H A W (Declared'.row Stream.the-type);
             of-mem = Local.whole-mem 𝓤 H A W
                 (Declared'.row Stream.the-type);
@@ -2323,22 +2322,22 @@ module _ (claims· : Claims) where
           pub question : Kinds.Den {n = 1} κs (Value.pVal record {
             ty = Declared.row Question.the-type;
             one = Path'.refl;
-            val = Laws'3.val Question.the-type Laws'.the-laws;
+            val = Laws'3.val Question.the-type Laws.the-laws;
             tells =
-                Laws'3.tells Question.the-type Laws'.the-laws;
-            still = Laws'3.still Question.the-type Laws'.the-copy Exit.yes;
+                Laws'3.tells Question.the-type Laws.the-laws;
+            still = Laws'3.still Question.the-type Laws.the-copy Exit.yes;
             row = Rows'.whole (Declared.row Question.the-type);
-            rd
-                = λ x. x;
+            rd =
+                λ x. x;
             mk = λ x. x;
           } λ M 𝓤 H A W. record {
-            copies = Laws'3.copy Question.the-type Laws'.the-copy 𝓤 H A W;
-            lawful = Laws'3.lawful Question.the-type Laws'.the-laws
-                𝓤 H A W tt;
-            makes = Laws'3.makes Question.the-type Laws'.the-plain 𝓤 H A;
+            copies = Laws'3.copy Question.the-type Laws.the-copy 𝓤 H A W;
+            lawful = Laws'3.lawful Question.the-type Laws.the-laws 𝓤 H
+                A W tt;
+            makes = Laws'3.makes Question.the-type Laws.the-plain 𝓤 H A;
             in-mem = Local.mem-whole 𝓤 H A W (Declared.row Question.the-type);
-            of-mem = Local.whole-mem
-                𝓤 H A W (Declared.row Question.the-type);
+            of-mem = Local.whole-mem 𝓤 H A
+                W (Declared.row Question.the-type);
           })
 
         abbrev pub dens : (a : Args) → Kinds.Dens κs ps

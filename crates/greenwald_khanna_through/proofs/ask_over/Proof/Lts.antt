@@ -1,12 +1,12 @@
 -- Machine-made by tools/port from the twin of `greenwald_khanna_through::ask_over`: never edited; tools/port/remake makes it anew.
 use Rattle.entries_face.proofs.Of
 use Prim.Native.Nat
-use Rattle.greenwald_khanna.proofs.Answer
-use Rattle.greenwald_khanna.proofs.Answer.Laws
 use Rattle.greenwald_khanna_part.proofs.Question
-use Rattle.greenwald_khanna_part.proofs.Question.Laws as Laws'
+use Rattle.greenwald_khanna_part.proofs.Question.Laws
 use Rattle.greenwald_khanna_steps.proofs.Stream
-use Rattle.greenwald_khanna_steps.proofs.Stream.Laws as Laws''
+use Rattle.greenwald_khanna_steps.proofs.Stream.Laws as Laws'
+use Rattle.greenwald_khanna_told.proofs.Answer
+use Rattle.greenwald_khanna_told.proofs.Answer.Laws as Laws''
 use borrow.Author.Called
 use borrow.Fn.Any
 use borrow.Fn.Call
@@ -57,40 +57,39 @@ abbrev pub ps : List.List (Kinds.PK 2)
 ps = List._∷_ (Value.pVal record {
   ty = Declared'.row Stream.the-type;
   one = Path'.refl;
-  val = Laws'4.val Stream.the-type Laws''.the-laws;
+  val = Laws'4.val Stream.the-type Laws'.the-laws;
   tells = Laws'4.tells Stream.the-type
-      Laws''.the-laws;
-  still = Laws'4.still Stream.the-type Laws''.the-copy Exit.yes;
+      Laws'.the-laws;
+  still = Laws'4.still Stream.the-type Laws'.the-copy Exit.yes;
   row = Rows.whole (Declared'.row Stream.the-type);
   rd = λ x. x;
   mk = λ x. x;
-} λ M 𝓤 H A W.
-    record {
-      copies = Laws'4.copy Stream.the-type Laws''.the-copy 𝓤 H A W;
-      lawful = Laws'4.lawful Stream.the-type Laws''.the-laws 𝓤 H A W;
-      makes = Laws'4.makes Stream.the-type
-          Laws''.the-plain 𝓤 H A;
-      in-mem = Local.mem-whole 𝓤 H A W (Declared'.row Stream.the-type);
-      of-mem = Local.whole-mem 𝓤 H A W (Declared'.row Stream.the-type);
-    }) (List._∷_
+} λ M 𝓤 H A W. record {
+  copies = Laws'4.copy Stream.the-type Laws'.the-copy 𝓤 H A W;
+  lawful = Laws'4.lawful Stream.the-type Laws'.the-laws 𝓤 H A W;
+  makes = Laws'4.makes Stream.the-type
+      Laws'.the-plain 𝓤 H A;
+  in-mem = Local.mem-whole 𝓤 H A W (Declared'.row Stream.the-type);
+  of-mem = Local.whole-mem 𝓤 H A W (Declared'.row Stream.the-type);
+}) (List._∷_
     (ShrSlice.pShrS Of.R 0 tt) (List._∷_ (Num.pNum Syntax.w64) (List._∷_ (MutSlice.pMutS (Array.Array (Referent.rtF (Referent.fInt Syntax.w32)) 3) 1 tt) (List._∷_ (Value.pVal
     record {
       ty = Declared.row Question.the-type;
       one = Path'.refl;
-      val = Laws'3.val Question.the-type Laws'.the-laws;
-      tells = Laws'3.tells Question.the-type Laws'.the-laws;
-      still
-          = Laws'3.still Question.the-type Laws'.the-copy Exit.yes;
+      val = Laws'3.val Question.the-type Laws.the-laws;
+      tells = Laws'3.tells Question.the-type Laws.the-laws;
+      still =
+          Laws'3.still Question.the-type Laws.the-copy Exit.yes;
       row = Rows.whole (Declared.row Question.the-type);
       rd = λ x. x;
       mk = λ x. x;
     } λ M 𝓤 H A W. record {
-      copies =
-          Laws'3.copy Question.the-type Laws'.the-copy 𝓤 H A W;
-      lawful = Laws'3.lawful Question.the-type Laws'.the-laws 𝓤 H A W tt;
-      makes = Laws'3.makes Question.the-type Laws'.the-plain
-          𝓤 H A;
-      in-mem = Local.mem-whole 𝓤 H A W (Declared.row Question.the-type);
+      copies = Laws'3.copy
+          Question.the-type Laws.the-copy 𝓤 H A W;
+      lawful = Laws'3.lawful Question.the-type Laws.the-laws 𝓤 H A W tt;
+      makes = Laws'3.makes Question.the-type Laws.the-plain 𝓤 H A;
+      in-mem
+          = Local.mem-whole 𝓤 H A W (Declared.row Question.the-type);
       of-mem = Local.whole-mem 𝓤 H A W (Declared.row Question.the-type);
     }) List.[]))))
 
@@ -98,17 +97,18 @@ abbrev pub r : Kinds.RK 2
 r = Value.rVal record {
   ty = Declared.row Answer.the-type;
   one = Path'.refl;
-  val = Laws'3.val Answer.the-type Laws.the-laws;
-  tells = Laws'3.tells Answer.the-type Laws.the-laws;
-  still = Laws'3.still Answer.the-type Laws.the-copy Exit.yes;
+  val = Laws'3.val Answer.the-type Laws''.the-laws;
+  tells = Laws'3.tells Answer.the-type Laws''.the-laws;
+  still = Laws'3.still Answer.the-type Laws''.the-copy Exit.yes;
   row = Rows.whole (Declared.row Answer.the-type);
   rd = λ x. x;
   mk = λ x. x;
 } λ M 𝓤 H A W. record {
   copies =
-      Laws'3.copy Answer.the-type Laws.the-copy 𝓤 H A W;
-  lawful = Laws'3.lawful Answer.the-type Laws.the-laws 𝓤 H A W tt;
-  makes = Laws'3.makes Answer.the-type Laws.the-plain 𝓤 H A;
+      Laws'3.copy Answer.the-type Laws''.the-copy 𝓤 H A W;
+  lawful = Laws'3.lawful Answer.the-type Laws''.the-laws 𝓤 H A W tt;
+  makes = Laws'3.makes Answer.the-type Laws''.the-plain 𝓤
+      H A;
   in-mem = Local.mem-whole 𝓤 H A W (Declared.row Answer.the-type);
   of-mem = Local.whole-mem 𝓤 H A W (Declared.row Answer.the-type);
 }
@@ -132,39 +132,39 @@ abbrev pub ps·1 : List.List (Kinds.PK 1)
 ps·1 = List._∷_ (Value.pVal record {
   ty = Declared'.row Stream.the-type;
   one = Path'.refl;
-  val = Laws'4.val Stream.the-type Laws''.the-laws;
+  val = Laws'4.val Stream.the-type Laws'.the-laws;
   tells = Laws'4.tells Stream.the-type
-      Laws''.the-laws;
-  still = Laws'4.still Stream.the-type Laws''.the-copy Exit.yes;
+      Laws'.the-laws;
+  still = Laws'4.still Stream.the-type Laws'.the-copy Exit.yes;
   row = Rows.whole (Declared'.row Stream.the-type);
   rd = λ x. x;
   mk = λ x. x;
-} λ M 𝓤 H A W.
-    record {
-      copies = Laws'4.copy Stream.the-type Laws''.the-copy 𝓤 H A W;
-      lawful = Laws'4.lawful Stream.the-type Laws''.the-laws 𝓤 H A W;
-      makes = Laws'4.makes Stream.the-type
-          Laws''.the-plain 𝓤 H A;
-      in-mem = Local.mem-whole 𝓤 H A W (Declared'.row Stream.the-type);
-      of-mem = Local.whole-mem 𝓤 H A W (Declared'.row Stream.the-type);
-    }) (List._∷_
+} λ M 𝓤 H A W. record {
+  copies = Laws'4.copy Stream.the-type Laws'.the-copy 𝓤 H A W;
+  lawful = Laws'4.lawful Stream.the-type Laws'.the-laws 𝓤 H A W;
+  makes = Laws'4.makes Stream.the-type
+      Laws'.the-plain 𝓤 H A;
+  in-mem = Local.mem-whole 𝓤 H A W (Declared'.row Stream.the-type);
+  of-mem = Local.whole-mem 𝓤 H A W (Declared'.row Stream.the-type);
+}) (List._∷_
     (ShrSlice.pShrS (Array.Array (Referent.rtF (Referent.fInt Syntax.w32)) 3) 0 tt) (List._∷_ (Num.pNum Syntax.w64) (List._∷_ (Value.pVal record {
       ty = Declared.row
           Question.the-type;
       one = Path'.refl;
-      val = Laws'3.val Question.the-type Laws'.the-laws;
-      tells = Laws'3.tells Question.the-type Laws'.the-laws;
+      val = Laws'3.val Question.the-type Laws.the-laws;
+      tells = Laws'3.tells Question.the-type Laws.the-laws;
       still = Laws'3.still
-          Question.the-type Laws'.the-copy Exit.yes;
+          Question.the-type Laws.the-copy Exit.yes;
       row = Rows.whole (Declared.row Question.the-type);
       rd = λ x. x;
       mk = λ x. x;
     } λ M 𝓤 H A W. record {
       copies = Laws'3.copy
-          Question.the-type Laws'.the-copy 𝓤 H A W;
-      lawful = Laws'3.lawful Question.the-type Laws'.the-laws 𝓤 H A W tt;
-      makes = Laws'3.makes Question.the-type Laws'.the-plain 𝓤 H A;
-      in-mem = Local.mem-whole 𝓤 H A W (Declared.row Question.the-type);
+          Question.the-type Laws.the-copy 𝓤 H A W;
+      lawful = Laws'3.lawful Question.the-type Laws.the-laws 𝓤 H A W tt;
+      makes = Laws'3.makes Question.the-type Laws.the-plain 𝓤 H A;
+      in-mem
+          = Local.mem-whole 𝓤 H A W (Declared.row Question.the-type);
       of-mem = Local.whole-mem 𝓤 H A W (Declared.row Question.the-type);
     }) List.[])))
 
@@ -172,17 +172,18 @@ abbrev pub r·1 : Kinds.RK 1
 r·1 = Value.rVal record {
   ty = Declared.row Answer.the-type;
   one = Path'.refl;
-  val = Laws'3.val Answer.the-type Laws.the-laws;
-  tells = Laws'3.tells Answer.the-type Laws.the-laws;
-  still = Laws'3.still Answer.the-type Laws.the-copy Exit.yes;
+  val = Laws'3.val Answer.the-type Laws''.the-laws;
+  tells = Laws'3.tells Answer.the-type
+      Laws''.the-laws;
+  still = Laws'3.still Answer.the-type Laws''.the-copy Exit.yes;
   row = Rows.whole (Declared.row Answer.the-type);
   rd = λ x. x;
   mk = λ x. x;
 } λ M 𝓤 H A W. record {
-  copies =
-      Laws'3.copy Answer.the-type Laws.the-copy 𝓤 H A W;
-  lawful = Laws'3.lawful Answer.the-type Laws.the-laws 𝓤 H A W tt;
-  makes = Laws'3.makes Answer.the-type Laws.the-plain 𝓤 H A;
+  copies = Laws'3.copy Answer.the-type Laws''.the-copy 𝓤 H A W;
+  lawful = Laws'3.lawful Answer.the-type Laws''.the-laws 𝓤 H A W tt;
+  makes = Laws'3.makes Answer.the-type
+      Laws''.the-plain 𝓤 H A;
   in-mem = Local.mem-whole 𝓤 H A W (Declared.row Answer.the-type);
   of-mem = Local.whole-mem 𝓤 H A W (Declared.row Answer.the-type);
 }
@@ -246,40 +247,35 @@ abbrev pub t0 : List.List Row.Entry
 t0 = List._∷_ (
   0,
   Rows.any-gone (Syntax.tyEnum (List._∷_ 103 (List._∷_ 114 (List._∷_ 101 (List._∷_ 101 (List._∷_ 110 (List._∷_ 119 (List._∷_ 97 (List._∷_ 108 (List._∷_ 100
-      (List._∷_ 95 (List._∷_ 107 (List._∷_ 104 (List._∷_ 97 (List._∷_ 110 (List._∷_ 110 (List._∷_ 97 (List._∷_ 58 (List._∷_ 58 (List._∷_ 65 (List._∷_ 110 (List._∷_ 115 (List._∷_ 119
-      (List._∷_ 101 (List._∷_ 114 List.[])))))))))))))))))))))))) (Syntax.ttcons (Syntax.tcons (Syntax.tyInt Syntax.w32) Syntax.tnil) (Syntax.ttcons (Syntax.tcons (Syntax.tyEnum
-      (List._∷_ 114 (List._∷_ 101 (List._∷_ 102 (List._∷_ 117 (List._∷_ 115 (List._∷_ 97 (List._∷_ 108 (List._∷_ 58 (List._∷_ 58 (List._∷_ 82 (List._∷_ 101 (List._∷_ 102 (List._∷_
-      117 (List._∷_ 115 (List._∷_ 97 (List._∷_ 108 List.[])))))))))))))))) (Syntax.ttcons Syntax.tnil (Syntax.ttcons Syntax.tnil (Syntax.ttcons Syntax.tnil (Syntax.ttcons Syntax.tnil
+      (List._∷_ 95 (List._∷_ 107 (List._∷_ 104 (List._∷_ 97 (List._∷_ 110 (List._∷_ 110 (List._∷_ 97 (List._∷_ 95 (List._∷_ 116 (List._∷_ 111 (List._∷_ 108 (List._∷_ 100 (List._∷_ 58
+      (List._∷_ 58 (List._∷_ 65 (List._∷_ 110 (List._∷_ 115 (List._∷_ 119 (List._∷_ 101 (List._∷_ 114 List.[]))))))))))))))))))))))))))))) (Syntax.ttcons (Syntax.tcons (Syntax.tyInt
+      Syntax.w32) Syntax.tnil) (Syntax.ttcons (Syntax.tcons (Syntax.tyEnum (List._∷_ 114 (List._∷_ 101 (List._∷_ 102 (List._∷_ 117 (List._∷_ 115 (List._∷_ 97 (List._∷_ 108 (List._∷_
+      58 (List._∷_ 58 (List._∷_ 82 (List._∷_ 101 (List._∷_ 102 (List._∷_ 117 (List._∷_ 115 (List._∷_ 97 (List._∷_ 108 List.[])))))))))))))))) (Syntax.ttcons Syntax.tnil
       (Syntax.ttcons Syntax.tnil (Syntax.ttcons Syntax.tnil (Syntax.ttcons Syntax.tnil (Syntax.ttcons Syntax.tnil (Syntax.ttcons Syntax.tnil (Syntax.ttcons Syntax.tnil (Syntax.ttcons
-      Syntax.tnil (Syntax.ttcons Syntax.tnil Syntax.ttnil))))))))))))) Syntax.tnil) Syntax.ttnil))),
-) (List._∷_ (1, Rows.whole (Declared'.row Stream.the-type)) (List._∷_ (
-  2,
-  Rows.sslice Of.R (Syntax.tyRef (Syntax.named 0) Syntax.imm Of.tyBy) 0,
-) (List._∷_ (3, Rows.sc-here (Row.sInt Syntax.w64)) (List._∷_ (
-  4,
-  Mut.mslice (Array.Array (Referent.rtF
-      (Referent.fInt Syntax.w32)) 3) (Syntax.tyRef (Syntax.named 1) Syntax.mut (Syntax.tyArray (Syntax.tyInt Syntax.w32) 3)) 1,
+      Syntax.tnil (Syntax.ttcons Syntax.tnil (Syntax.ttcons Syntax.tnil (Syntax.ttcons Syntax.tnil (Syntax.ttcons Syntax.tnil Syntax.ttnil))))))))))))) Syntax.tnil) Syntax.ttnil))),
+) (List._∷_ (1, Rows.whole (Declared'.row Stream.the-type)) (List._∷_ (2, Rows.sslice Of.R (Syntax.tyRef (Syntax.named 0) Syntax.imm Of.tyBy) 0) (List._∷_ (
+  3,
+  Rows.sc-here
+      (Row.sInt Syntax.w64),
 ) (List._∷_ (
-  5,
-  Rows.whole (Declared.row
-      Question.the-type),
-) (List._∷_ (6, Rows.any-gone Syntax.tyUnit) (List._∷_ (
+  4,
+  Mut.mslice (Array.Array (Referent.rtF (Referent.fInt Syntax.w32)) 3) (Syntax.tyRef (Syntax.named 1) Syntax.mut (Syntax.tyArray
+      (Syntax.tyInt Syntax.w32) 3)) 1,
+) (List._∷_ (5, Rows.whole (Declared.row Question.the-type)) (List._∷_ (6, Rows.any-gone Syntax.tyUnit) (List._∷_ (
   7,
-  Rows.any-gone (Syntax.tyRef Syntax.erased Syntax.mut (Syntax.tyArray (Syntax.tyInt Syntax.w32)
-      3)),
+  Rows.any-gone
+      (Syntax.tyRef Syntax.erased Syntax.mut (Syntax.tyArray (Syntax.tyInt Syntax.w32) 3)),
 ) (List._∷_ (
   8,
-  Rows.any-gone (Syntax.tyStruct (List._∷_ 38 (List._∷_ 91 (List._∷_ 93 List.[]))) (Syntax.tcons (Syntax.tyRef Syntax.erased Syntax.mut (Syntax.tyArray
-      (Syntax.tyInt Syntax.w32) 3)) (Syntax.tcons (Syntax.tyInt Syntax.w64) Syntax.tnil))),
-) (List._∷_ (
-  9,
-  Rows.any-gone (Syntax.tyRef Syntax.erased Syntax.imm (Syntax.tyArray
-      (Syntax.tyInt Syntax.w32) 3)),
-) (List._∷_ (
-  10,
-  Rows.any-gone (Syntax.tyStruct (List._∷_ 38 (List._∷_ 91 (List._∷_ 93 List.[]))) (Syntax.tcons (Syntax.tyRef Syntax.erased
-      Syntax.imm (Syntax.tyArray (Syntax.tyInt Syntax.w32) 3)) (Syntax.tcons (Syntax.tyInt Syntax.w64) Syntax.tnil))),
-) List.[]))))))))))
+  Rows.any-gone (Syntax.tyStruct (List._∷_ 38 (List._∷_ 91 (List._∷_ 93
+      List.[]))) (Syntax.tcons (Syntax.tyRef Syntax.erased Syntax.mut (Syntax.tyArray (Syntax.tyInt Syntax.w32) 3)) (Syntax.tcons (Syntax.tyInt Syntax.w64) Syntax.tnil))),
+)
+    (List._∷_ (9, Rows.any-gone (Syntax.tyRef Syntax.erased Syntax.imm (Syntax.tyArray (Syntax.tyInt Syntax.w32) 3))) (List._∷_ (
+      10,
+      Rows.any-gone (Syntax.tyStruct (List._∷_ 38
+          (List._∷_ 91 (List._∷_ 93 List.[]))) (Syntax.tcons (Syntax.tyRef Syntax.erased Syntax.imm (Syntax.tyArray (Syntax.tyInt Syntax.w32) 3)) (Syntax.tcons (Syntax.tyInt Syntax.w64)
+          Syntax.tnil))),
+    ) List.[]))))))))))
 
 abbrev pub t1 : List.List Row.Entry
 t1 = List._∷_ (0, Rows.whole (Declared.row Answer.the-type)) (List._∷_ (
@@ -321,222 +317,208 @@ abbrev pub t2 : List.List Row.Entry
 t2 = List._∷_ (
   0,
   Rows.any-gone (Syntax.tyEnum (List._∷_ 103 (List._∷_ 114 (List._∷_ 101 (List._∷_ 101 (List._∷_ 110 (List._∷_ 119 (List._∷_ 97 (List._∷_ 108 (List._∷_ 100
-      (List._∷_ 95 (List._∷_ 107 (List._∷_ 104 (List._∷_ 97 (List._∷_ 110 (List._∷_ 110 (List._∷_ 97 (List._∷_ 58 (List._∷_ 58 (List._∷_ 65 (List._∷_ 110 (List._∷_ 115 (List._∷_ 119
-      (List._∷_ 101 (List._∷_ 114 List.[])))))))))))))))))))))))) (Syntax.ttcons (Syntax.tcons (Syntax.tyInt Syntax.w32) Syntax.tnil) (Syntax.ttcons (Syntax.tcons (Syntax.tyEnum
-      (List._∷_ 114 (List._∷_ 101 (List._∷_ 102 (List._∷_ 117 (List._∷_ 115 (List._∷_ 97 (List._∷_ 108 (List._∷_ 58 (List._∷_ 58 (List._∷_ 82 (List._∷_ 101 (List._∷_ 102 (List._∷_
-      117 (List._∷_ 115 (List._∷_ 97 (List._∷_ 108 List.[])))))))))))))))) (Syntax.ttcons Syntax.tnil (Syntax.ttcons Syntax.tnil (Syntax.ttcons Syntax.tnil (Syntax.ttcons Syntax.tnil
+      (List._∷_ 95 (List._∷_ 107 (List._∷_ 104 (List._∷_ 97 (List._∷_ 110 (List._∷_ 110 (List._∷_ 97 (List._∷_ 95 (List._∷_ 116 (List._∷_ 111 (List._∷_ 108 (List._∷_ 100 (List._∷_ 58
+      (List._∷_ 58 (List._∷_ 65 (List._∷_ 110 (List._∷_ 115 (List._∷_ 119 (List._∷_ 101 (List._∷_ 114 List.[]))))))))))))))))))))))))))))) (Syntax.ttcons (Syntax.tcons (Syntax.tyInt
+      Syntax.w32) Syntax.tnil) (Syntax.ttcons (Syntax.tcons (Syntax.tyEnum (List._∷_ 114 (List._∷_ 101 (List._∷_ 102 (List._∷_ 117 (List._∷_ 115 (List._∷_ 97 (List._∷_ 108 (List._∷_
+      58 (List._∷_ 58 (List._∷_ 82 (List._∷_ 101 (List._∷_ 102 (List._∷_ 117 (List._∷_ 115 (List._∷_ 97 (List._∷_ 108 List.[])))))))))))))))) (Syntax.ttcons Syntax.tnil
       (Syntax.ttcons Syntax.tnil (Syntax.ttcons Syntax.tnil (Syntax.ttcons Syntax.tnil (Syntax.ttcons Syntax.tnil (Syntax.ttcons Syntax.tnil (Syntax.ttcons Syntax.tnil (Syntax.ttcons
-      Syntax.tnil (Syntax.ttcons Syntax.tnil Syntax.ttnil))))))))))))) Syntax.tnil) Syntax.ttnil))),
-) (List._∷_ (1, Rows.whole (Declared'.row Stream.the-type)) (List._∷_ (
-  2,
-  Rows.sslice Of.R (Syntax.tyRef (Syntax.named 0) Syntax.imm Of.tyBy) 0,
-) (List._∷_ (3, Rows.sc-here (Row.sInt Syntax.w64)) (List._∷_ (
-  4,
-  Relend.mslice-owed (Array.Array
-      (Referent.rtF (Referent.fInt Syntax.w32)) 3) (Syntax.tyRef (Syntax.named 1) Syntax.mut (Syntax.tyArray (Syntax.tyInt Syntax.w32) 3)) 1 2 Row.off,
+      Syntax.tnil (Syntax.ttcons Syntax.tnil (Syntax.ttcons Syntax.tnil (Syntax.ttcons Syntax.tnil (Syntax.ttcons Syntax.tnil Syntax.ttnil))))))))))))) Syntax.tnil) Syntax.ttnil))),
+) (List._∷_ (1, Rows.whole (Declared'.row Stream.the-type)) (List._∷_ (2, Rows.sslice Of.R (Syntax.tyRef (Syntax.named 0) Syntax.imm Of.tyBy) 0) (List._∷_ (
+  3,
+  Rows.sc-here
+      (Row.sInt Syntax.w64),
 ) (List._∷_ (
-  5,
-  Rows.whole
-      (Declared.row Question.the-type),
-) (List._∷_ (6, Rows.any-gone Syntax.tyUnit) (List._∷_ (
+  4,
+  Relend.mslice-owed (Array.Array (Referent.rtF (Referent.fInt Syntax.w32)) 3) (Syntax.tyRef (Syntax.named 1) Syntax.mut (Syntax.tyArray
+      (Syntax.tyInt Syntax.w32) 3)) 1 2 Row.off,
+) (List._∷_ (5, Rows.whole (Declared.row Question.the-type)) (List._∷_ (6, Rows.any-gone Syntax.tyUnit) (List._∷_ (
   7,
-  Relend.msptr (Array.Array (Referent.rtF (Referent.fInt Syntax.w32)) 3)
-      (Syntax.tyRef Syntax.erased Syntax.mut (Syntax.tyArray (Syntax.tyInt Syntax.w32) 3)) 2,
+  Relend.msptr (Array.Array (Referent.rtF (Referent.fInt Syntax.w32)) 3) (Syntax.tyRef Syntax.erased Syntax.mut (Syntax.tyArray (Syntax.tyInt Syntax.w32) 3)) 2,
 ) (List._∷_ (
   8,
-  Rows.any-gone (Syntax.tyStruct (List._∷_ 38 (List._∷_ 91 (List._∷_ 93
-      List.[]))) (Syntax.tcons (Syntax.tyRef Syntax.erased Syntax.mut (Syntax.tyArray (Syntax.tyInt Syntax.w32) 3)) (Syntax.tcons (Syntax.tyInt Syntax.w64) Syntax.tnil))),
-)
-    (List._∷_ (9, Rows.any-gone (Syntax.tyRef Syntax.erased Syntax.imm (Syntax.tyArray (Syntax.tyInt Syntax.w32) 3))) (List._∷_ (
-      10,
-      Rows.any-gone (Syntax.tyStruct (List._∷_ 38
-          (List._∷_ 91 (List._∷_ 93 List.[]))) (Syntax.tcons (Syntax.tyRef Syntax.erased Syntax.imm (Syntax.tyArray (Syntax.tyInt Syntax.w32) 3)) (Syntax.tcons (Syntax.tyInt Syntax.w64)
-          Syntax.tnil))),
-    ) List.[]))))))))))
+  Rows.any-gone (Syntax.tyStruct (List._∷_ 38 (List._∷_ 91 (List._∷_ 93 List.[]))) (Syntax.tcons (Syntax.tyRef Syntax.erased Syntax.mut (Syntax.tyArray (Syntax.tyInt Syntax.w32)
+      3)) (Syntax.tcons (Syntax.tyInt Syntax.w64) Syntax.tnil))),
+) (List._∷_ (
+  9,
+  Rows.any-gone (Syntax.tyRef Syntax.erased Syntax.imm (Syntax.tyArray (Syntax.tyInt Syntax.w32) 3)),
+) (List._∷_ (
+  10,
+  Rows.any-gone (Syntax.tyStruct (List._∷_ 38 (List._∷_ 91 (List._∷_ 93 List.[]))) (Syntax.tcons (Syntax.tyRef Syntax.erased Syntax.imm (Syntax.tyArray
+      (Syntax.tyInt Syntax.w32) 3)) (Syntax.tcons (Syntax.tyInt Syntax.w64) Syntax.tnil))),
+) List.[]))))))))))
 
 abbrev pub t3 : List.List Row.Entry
 t3 = List._∷_ (
   0,
   Rows.any-gone (Syntax.tyEnum (List._∷_ 103 (List._∷_ 114 (List._∷_ 101 (List._∷_ 101 (List._∷_ 110 (List._∷_ 119 (List._∷_ 97 (List._∷_ 108 (List._∷_ 100
-      (List._∷_ 95 (List._∷_ 107 (List._∷_ 104 (List._∷_ 97 (List._∷_ 110 (List._∷_ 110 (List._∷_ 97 (List._∷_ 58 (List._∷_ 58 (List._∷_ 65 (List._∷_ 110 (List._∷_ 115 (List._∷_ 119
-      (List._∷_ 101 (List._∷_ 114 List.[])))))))))))))))))))))))) (Syntax.ttcons (Syntax.tcons (Syntax.tyInt Syntax.w32) Syntax.tnil) (Syntax.ttcons (Syntax.tcons (Syntax.tyEnum
-      (List._∷_ 114 (List._∷_ 101 (List._∷_ 102 (List._∷_ 117 (List._∷_ 115 (List._∷_ 97 (List._∷_ 108 (List._∷_ 58 (List._∷_ 58 (List._∷_ 82 (List._∷_ 101 (List._∷_ 102 (List._∷_
-      117 (List._∷_ 115 (List._∷_ 97 (List._∷_ 108 List.[])))))))))))))))) (Syntax.ttcons Syntax.tnil (Syntax.ttcons Syntax.tnil (Syntax.ttcons Syntax.tnil (Syntax.ttcons Syntax.tnil
+      (List._∷_ 95 (List._∷_ 107 (List._∷_ 104 (List._∷_ 97 (List._∷_ 110 (List._∷_ 110 (List._∷_ 97 (List._∷_ 95 (List._∷_ 116 (List._∷_ 111 (List._∷_ 108 (List._∷_ 100 (List._∷_ 58
+      (List._∷_ 58 (List._∷_ 65 (List._∷_ 110 (List._∷_ 115 (List._∷_ 119 (List._∷_ 101 (List._∷_ 114 List.[]))))))))))))))))))))))))))))) (Syntax.ttcons (Syntax.tcons (Syntax.tyInt
+      Syntax.w32) Syntax.tnil) (Syntax.ttcons (Syntax.tcons (Syntax.tyEnum (List._∷_ 114 (List._∷_ 101 (List._∷_ 102 (List._∷_ 117 (List._∷_ 115 (List._∷_ 97 (List._∷_ 108 (List._∷_
+      58 (List._∷_ 58 (List._∷_ 82 (List._∷_ 101 (List._∷_ 102 (List._∷_ 117 (List._∷_ 115 (List._∷_ 97 (List._∷_ 108 List.[])))))))))))))))) (Syntax.ttcons Syntax.tnil
       (Syntax.ttcons Syntax.tnil (Syntax.ttcons Syntax.tnil (Syntax.ttcons Syntax.tnil (Syntax.ttcons Syntax.tnil (Syntax.ttcons Syntax.tnil (Syntax.ttcons Syntax.tnil (Syntax.ttcons
-      Syntax.tnil (Syntax.ttcons Syntax.tnil Syntax.ttnil))))))))))))) Syntax.tnil) Syntax.ttnil))),
-) (List._∷_ (1, Rows.whole (Declared'.row Stream.the-type)) (List._∷_ (
-  2,
-  Rows.sslice Of.R (Syntax.tyRef (Syntax.named 0) Syntax.imm Of.tyBy) 0,
-) (List._∷_ (3, Rows.sc-here (Row.sInt Syntax.w64)) (List._∷_ (
-  4,
-  Relend.mslice-owed (Array.Array
-      (Referent.rtF (Referent.fInt Syntax.w32)) 3) (Syntax.tyRef (Syntax.named 1) Syntax.mut (Syntax.tyArray (Syntax.tyInt Syntax.w32) 3)) 1 2 Row.off,
+      Syntax.tnil (Syntax.ttcons Syntax.tnil (Syntax.ttcons Syntax.tnil (Syntax.ttcons Syntax.tnil (Syntax.ttcons Syntax.tnil Syntax.ttnil))))))))))))) Syntax.tnil) Syntax.ttnil))),
+) (List._∷_ (1, Rows.whole (Declared'.row Stream.the-type)) (List._∷_ (2, Rows.sslice Of.R (Syntax.tyRef (Syntax.named 0) Syntax.imm Of.tyBy) 0) (List._∷_ (
+  3,
+  Rows.sc-here
+      (Row.sInt Syntax.w64),
 ) (List._∷_ (
-  5,
-  Rows.whole
-      (Declared.row Question.the-type),
-) (List._∷_ (6, Rows.any-gone Syntax.tyUnit) (List._∷_ (
+  4,
+  Relend.mslice-owed (Array.Array (Referent.rtF (Referent.fInt Syntax.w32)) 3) (Syntax.tyRef (Syntax.named 1) Syntax.mut (Syntax.tyArray
+      (Syntax.tyInt Syntax.w32) 3)) 1 2 Row.off,
+) (List._∷_ (5, Rows.whole (Declared.row Question.the-type)) (List._∷_ (6, Rows.any-gone Syntax.tyUnit) (List._∷_ (
   7,
-  Rows.any-gone (Syntax.tyRef Syntax.erased Syntax.mut (Syntax.tyArray
-      (Syntax.tyInt Syntax.w32) 3)),
+  Rows.any-gone (Syntax.tyRef Syntax.erased Syntax.mut (Syntax.tyArray (Syntax.tyInt Syntax.w32) 3)),
 ) (List._∷_ (
   8,
-  Mut.mslice (Array.Array (Referent.rtF (Referent.fInt Syntax.w32)) 3) (Syntax.tyRef Syntax.erased Syntax.mut (Syntax.tyArray
-      (Syntax.tyInt Syntax.w32) 3)) 2,
-) (List._∷_ (9, Rows.any-gone (Syntax.tyRef Syntax.erased Syntax.imm (Syntax.tyArray (Syntax.tyInt Syntax.w32) 3))) (List._∷_ (
+  Mut.mslice (Array.Array (Referent.rtF (Referent.fInt
+      Syntax.w32)) 3) (Syntax.tyRef Syntax.erased Syntax.mut (Syntax.tyArray (Syntax.tyInt Syntax.w32) 3)) 2,
+) (List._∷_ (
+  9,
+  Rows.any-gone (Syntax.tyRef Syntax.erased Syntax.imm
+      (Syntax.tyArray (Syntax.tyInt Syntax.w32) 3)),
+) (List._∷_ (
   10,
-  Rows.any-gone (Syntax.tyStruct (List._∷_ 38 (List._∷_ 91 (List._∷_ 93 List.[]))) (Syntax.tcons (Syntax.tyRef Syntax.erased Syntax.imm (Syntax.tyArray (Syntax.tyInt Syntax.w32)
-      3)) (Syntax.tcons (Syntax.tyInt Syntax.w64) Syntax.tnil))),
+  Rows.any-gone (Syntax.tyStruct (List._∷_ 38 (List._∷_ 91 (List._∷_ 93 List.[]))) (Syntax.tcons (Syntax.tyRef
+      Syntax.erased Syntax.imm (Syntax.tyArray (Syntax.tyInt Syntax.w32) 3)) (Syntax.tcons (Syntax.tyInt Syntax.w64) Syntax.tnil))),
 ) List.[]))))))))))
 
 abbrev pub t4 : List.List Row.Entry
 t4 = List._∷_ (
   0,
   Rows.any-gone (Syntax.tyEnum (List._∷_ 103 (List._∷_ 114 (List._∷_ 101 (List._∷_ 101 (List._∷_ 110 (List._∷_ 119 (List._∷_ 97 (List._∷_ 108 (List._∷_ 100
-      (List._∷_ 95 (List._∷_ 107 (List._∷_ 104 (List._∷_ 97 (List._∷_ 110 (List._∷_ 110 (List._∷_ 97 (List._∷_ 58 (List._∷_ 58 (List._∷_ 65 (List._∷_ 110 (List._∷_ 115 (List._∷_ 119
-      (List._∷_ 101 (List._∷_ 114 List.[])))))))))))))))))))))))) (Syntax.ttcons (Syntax.tcons (Syntax.tyInt Syntax.w32) Syntax.tnil) (Syntax.ttcons (Syntax.tcons (Syntax.tyEnum
-      (List._∷_ 114 (List._∷_ 101 (List._∷_ 102 (List._∷_ 117 (List._∷_ 115 (List._∷_ 97 (List._∷_ 108 (List._∷_ 58 (List._∷_ 58 (List._∷_ 82 (List._∷_ 101 (List._∷_ 102 (List._∷_
-      117 (List._∷_ 115 (List._∷_ 97 (List._∷_ 108 List.[])))))))))))))))) (Syntax.ttcons Syntax.tnil (Syntax.ttcons Syntax.tnil (Syntax.ttcons Syntax.tnil (Syntax.ttcons Syntax.tnil
+      (List._∷_ 95 (List._∷_ 107 (List._∷_ 104 (List._∷_ 97 (List._∷_ 110 (List._∷_ 110 (List._∷_ 97 (List._∷_ 95 (List._∷_ 116 (List._∷_ 111 (List._∷_ 108 (List._∷_ 100 (List._∷_ 58
+      (List._∷_ 58 (List._∷_ 65 (List._∷_ 110 (List._∷_ 115 (List._∷_ 119 (List._∷_ 101 (List._∷_ 114 List.[]))))))))))))))))))))))))))))) (Syntax.ttcons (Syntax.tcons (Syntax.tyInt
+      Syntax.w32) Syntax.tnil) (Syntax.ttcons (Syntax.tcons (Syntax.tyEnum (List._∷_ 114 (List._∷_ 101 (List._∷_ 102 (List._∷_ 117 (List._∷_ 115 (List._∷_ 97 (List._∷_ 108 (List._∷_
+      58 (List._∷_ 58 (List._∷_ 82 (List._∷_ 101 (List._∷_ 102 (List._∷_ 117 (List._∷_ 115 (List._∷_ 97 (List._∷_ 108 List.[])))))))))))))))) (Syntax.ttcons Syntax.tnil
       (Syntax.ttcons Syntax.tnil (Syntax.ttcons Syntax.tnil (Syntax.ttcons Syntax.tnil (Syntax.ttcons Syntax.tnil (Syntax.ttcons Syntax.tnil (Syntax.ttcons Syntax.tnil (Syntax.ttcons
-      Syntax.tnil (Syntax.ttcons Syntax.tnil Syntax.ttnil))))))))))))) Syntax.tnil) Syntax.ttnil))),
-) (List._∷_ (1, Rows.whole (Declared'.row Stream.the-type)) (List._∷_ (
-  2,
-  Rows.sslice Of.R (Syntax.tyRef (Syntax.named 0) Syntax.imm Of.tyBy) 0,
-) (List._∷_ (3, Rows.sc-here (Row.sInt Syntax.w64)) (List._∷_ (
-  4,
-  Relend.mslice-owed (Array.Array
-      (Referent.rtF (Referent.fInt Syntax.w32)) 3) (Syntax.tyRef (Syntax.named 1) Syntax.mut (Syntax.tyArray (Syntax.tyInt Syntax.w32) 3)) 1 2 Row.off,
+      Syntax.tnil (Syntax.ttcons Syntax.tnil (Syntax.ttcons Syntax.tnil (Syntax.ttcons Syntax.tnil (Syntax.ttcons Syntax.tnil Syntax.ttnil))))))))))))) Syntax.tnil) Syntax.ttnil))),
+) (List._∷_ (1, Rows.whole (Declared'.row Stream.the-type)) (List._∷_ (2, Rows.sslice Of.R (Syntax.tyRef (Syntax.named 0) Syntax.imm Of.tyBy) 0) (List._∷_ (
+  3,
+  Rows.sc-here
+      (Row.sInt Syntax.w64),
 ) (List._∷_ (
-  5,
-  Rows.whole
-      (Declared.row Question.the-type),
-) (List._∷_ (6, Rows.sc-here Row.sUnit) (List._∷_ (
+  4,
+  Relend.mslice-owed (Array.Array (Referent.rtF (Referent.fInt Syntax.w32)) 3) (Syntax.tyRef (Syntax.named 1) Syntax.mut (Syntax.tyArray
+      (Syntax.tyInt Syntax.w32) 3)) 1 2 Row.off,
+) (List._∷_ (5, Rows.whole (Declared.row Question.the-type)) (List._∷_ (6, Rows.sc-here Row.sUnit) (List._∷_ (
   7,
-  Rows.any-gone (Syntax.tyRef Syntax.erased Syntax.mut (Syntax.tyArray (Syntax.tyInt
-      Syntax.w32) 3)),
+  Rows.any-gone
+      (Syntax.tyRef Syntax.erased Syntax.mut (Syntax.tyArray (Syntax.tyInt Syntax.w32) 3)),
 ) (List._∷_ (
   8,
-  Mut.msleft (Array.Array (Referent.rtF (Referent.fInt Syntax.w32)) 3) (Syntax.tyRef Syntax.erased Syntax.mut (Syntax.tyArray (Syntax.tyInt
-      Syntax.w32) 3)),
-) (List._∷_ (9, Rows.any-gone (Syntax.tyRef Syntax.erased Syntax.imm (Syntax.tyArray (Syntax.tyInt Syntax.w32) 3))) (List._∷_ (
+  Mut.msleft (Array.Array (Referent.rtF (Referent.fInt Syntax.w32)) 3)
+      (Syntax.tyRef Syntax.erased Syntax.mut (Syntax.tyArray (Syntax.tyInt Syntax.w32) 3)),
+) (List._∷_ (
+  9,
+  Rows.any-gone (Syntax.tyRef Syntax.erased Syntax.imm (Syntax.tyArray
+      (Syntax.tyInt Syntax.w32) 3)),
+) (List._∷_ (
   10,
-  Rows.any-gone
-      (Syntax.tyStruct (List._∷_ 38 (List._∷_ 91 (List._∷_ 93 List.[]))) (Syntax.tcons (Syntax.tyRef Syntax.erased Syntax.imm (Syntax.tyArray (Syntax.tyInt Syntax.w32) 3))
-      (Syntax.tcons (Syntax.tyInt Syntax.w64) Syntax.tnil))),
+  Rows.any-gone (Syntax.tyStruct (List._∷_ 38 (List._∷_ 91 (List._∷_ 93 List.[]))) (Syntax.tcons (Syntax.tyRef Syntax.erased
+      Syntax.imm (Syntax.tyArray (Syntax.tyInt Syntax.w32) 3)) (Syntax.tcons (Syntax.tyInt Syntax.w64) Syntax.tnil))),
 ) List.[]))))))))))
 
 abbrev pub t5 : List.List Row.Entry
 t5 = List._∷_ (
   0,
   Rows.any-gone (Syntax.tyEnum (List._∷_ 103 (List._∷_ 114 (List._∷_ 101 (List._∷_ 101 (List._∷_ 110 (List._∷_ 119 (List._∷_ 97 (List._∷_ 108 (List._∷_ 100
-      (List._∷_ 95 (List._∷_ 107 (List._∷_ 104 (List._∷_ 97 (List._∷_ 110 (List._∷_ 110 (List._∷_ 97 (List._∷_ 58 (List._∷_ 58 (List._∷_ 65 (List._∷_ 110 (List._∷_ 115 (List._∷_ 119
-      (List._∷_ 101 (List._∷_ 114 List.[])))))))))))))))))))))))) (Syntax.ttcons (Syntax.tcons (Syntax.tyInt Syntax.w32) Syntax.tnil) (Syntax.ttcons (Syntax.tcons (Syntax.tyEnum
-      (List._∷_ 114 (List._∷_ 101 (List._∷_ 102 (List._∷_ 117 (List._∷_ 115 (List._∷_ 97 (List._∷_ 108 (List._∷_ 58 (List._∷_ 58 (List._∷_ 82 (List._∷_ 101 (List._∷_ 102 (List._∷_
-      117 (List._∷_ 115 (List._∷_ 97 (List._∷_ 108 List.[])))))))))))))))) (Syntax.ttcons Syntax.tnil (Syntax.ttcons Syntax.tnil (Syntax.ttcons Syntax.tnil (Syntax.ttcons Syntax.tnil
+      (List._∷_ 95 (List._∷_ 107 (List._∷_ 104 (List._∷_ 97 (List._∷_ 110 (List._∷_ 110 (List._∷_ 97 (List._∷_ 95 (List._∷_ 116 (List._∷_ 111 (List._∷_ 108 (List._∷_ 100 (List._∷_ 58
+      (List._∷_ 58 (List._∷_ 65 (List._∷_ 110 (List._∷_ 115 (List._∷_ 119 (List._∷_ 101 (List._∷_ 114 List.[]))))))))))))))))))))))))))))) (Syntax.ttcons (Syntax.tcons (Syntax.tyInt
+      Syntax.w32) Syntax.tnil) (Syntax.ttcons (Syntax.tcons (Syntax.tyEnum (List._∷_ 114 (List._∷_ 101 (List._∷_ 102 (List._∷_ 117 (List._∷_ 115 (List._∷_ 97 (List._∷_ 108 (List._∷_
+      58 (List._∷_ 58 (List._∷_ 82 (List._∷_ 101 (List._∷_ 102 (List._∷_ 117 (List._∷_ 115 (List._∷_ 97 (List._∷_ 108 List.[])))))))))))))))) (Syntax.ttcons Syntax.tnil
       (Syntax.ttcons Syntax.tnil (Syntax.ttcons Syntax.tnil (Syntax.ttcons Syntax.tnil (Syntax.ttcons Syntax.tnil (Syntax.ttcons Syntax.tnil (Syntax.ttcons Syntax.tnil (Syntax.ttcons
-      Syntax.tnil (Syntax.ttcons Syntax.tnil Syntax.ttnil))))))))))))) Syntax.tnil) Syntax.ttnil))),
-) (List._∷_ (1, Rows.whole (Declared'.row Stream.the-type)) (List._∷_ (
-  2,
-  Rows.sslice Of.R (Syntax.tyRef (Syntax.named 0) Syntax.imm Of.tyBy) 0,
-) (List._∷_ (3, Rows.sc-here (Row.sInt Syntax.w64)) (List._∷_ (
-  4,
-  Relend.mslice-owed (Array.Array
-      (Referent.rtF (Referent.fInt Syntax.w32)) 3) (Syntax.tyRef (Syntax.named 1) Syntax.mut (Syntax.tyArray (Syntax.tyInt Syntax.w32) 3)) 1 2 Row.off,
+      Syntax.tnil (Syntax.ttcons Syntax.tnil (Syntax.ttcons Syntax.tnil (Syntax.ttcons Syntax.tnil (Syntax.ttcons Syntax.tnil Syntax.ttnil))))))))))))) Syntax.tnil) Syntax.ttnil))),
+) (List._∷_ (1, Rows.whole (Declared'.row Stream.the-type)) (List._∷_ (2, Rows.sslice Of.R (Syntax.tyRef (Syntax.named 0) Syntax.imm Of.tyBy) 0) (List._∷_ (
+  3,
+  Rows.sc-here
+      (Row.sInt Syntax.w64),
 ) (List._∷_ (
-  5,
-  Rows.whole
-      (Declared.row Question.the-type),
-) (List._∷_ (6, Rows.any-gone Syntax.tyUnit) (List._∷_ (
+  4,
+  Relend.mslice-owed (Array.Array (Referent.rtF (Referent.fInt Syntax.w32)) 3) (Syntax.tyRef (Syntax.named 1) Syntax.mut (Syntax.tyArray
+      (Syntax.tyInt Syntax.w32) 3)) 1 2 Row.off,
+) (List._∷_ (5, Rows.whole (Declared.row Question.the-type)) (List._∷_ (6, Rows.any-gone Syntax.tyUnit) (List._∷_ (
   7,
-  Rows.any-gone (Syntax.tyRef Syntax.erased Syntax.mut (Syntax.tyArray
-      (Syntax.tyInt Syntax.w32) 3)),
+  Rows.any-gone (Syntax.tyRef Syntax.erased Syntax.mut (Syntax.tyArray (Syntax.tyInt Syntax.w32) 3)),
 ) (List._∷_ (
   8,
-  Mut.msleft (Array.Array (Referent.rtF (Referent.fInt Syntax.w32)) 3) (Syntax.tyRef Syntax.erased Syntax.mut (Syntax.tyArray
-      (Syntax.tyInt Syntax.w32) 3)),
-) (List._∷_ (9, Rows.any-gone (Syntax.tyRef Syntax.erased Syntax.imm (Syntax.tyArray (Syntax.tyInt Syntax.w32) 3))) (List._∷_ (
+  Mut.msleft (Array.Array (Referent.rtF (Referent.fInt
+      Syntax.w32)) 3) (Syntax.tyRef Syntax.erased Syntax.mut (Syntax.tyArray (Syntax.tyInt Syntax.w32) 3)),
+) (List._∷_ (
+  9,
+  Rows.any-gone (Syntax.tyRef Syntax.erased Syntax.imm
+      (Syntax.tyArray (Syntax.tyInt Syntax.w32) 3)),
+) (List._∷_ (
   10,
-  Rows.any-gone (Syntax.tyStruct (List._∷_ 38 (List._∷_ 91 (List._∷_ 93 List.[]))) (Syntax.tcons (Syntax.tyRef Syntax.erased Syntax.imm (Syntax.tyArray (Syntax.tyInt Syntax.w32)
-      3)) (Syntax.tcons (Syntax.tyInt Syntax.w64) Syntax.tnil))),
+  Rows.any-gone (Syntax.tyStruct (List._∷_ 38 (List._∷_ 91 (List._∷_ 93 List.[]))) (Syntax.tcons (Syntax.tyRef
+      Syntax.erased Syntax.imm (Syntax.tyArray (Syntax.tyInt Syntax.w32) 3)) (Syntax.tcons (Syntax.tyInt Syntax.w64) Syntax.tnil))),
 ) List.[]))))))))))
 
 abbrev pub t6 : List.List Row.Entry
 t6 = List._∷_ (
   0,
   Rows.any-gone (Syntax.tyEnum (List._∷_ 103 (List._∷_ 114 (List._∷_ 101 (List._∷_ 101 (List._∷_ 110 (List._∷_ 119 (List._∷_ 97 (List._∷_ 108 (List._∷_ 100
-      (List._∷_ 95 (List._∷_ 107 (List._∷_ 104 (List._∷_ 97 (List._∷_ 110 (List._∷_ 110 (List._∷_ 97 (List._∷_ 58 (List._∷_ 58 (List._∷_ 65 (List._∷_ 110 (List._∷_ 115 (List._∷_ 119
-      (List._∷_ 101 (List._∷_ 114 List.[])))))))))))))))))))))))) (Syntax.ttcons (Syntax.tcons (Syntax.tyInt Syntax.w32) Syntax.tnil) (Syntax.ttcons (Syntax.tcons (Syntax.tyEnum
-      (List._∷_ 114 (List._∷_ 101 (List._∷_ 102 (List._∷_ 117 (List._∷_ 115 (List._∷_ 97 (List._∷_ 108 (List._∷_ 58 (List._∷_ 58 (List._∷_ 82 (List._∷_ 101 (List._∷_ 102 (List._∷_
-      117 (List._∷_ 115 (List._∷_ 97 (List._∷_ 108 List.[])))))))))))))))) (Syntax.ttcons Syntax.tnil (Syntax.ttcons Syntax.tnil (Syntax.ttcons Syntax.tnil (Syntax.ttcons Syntax.tnil
+      (List._∷_ 95 (List._∷_ 107 (List._∷_ 104 (List._∷_ 97 (List._∷_ 110 (List._∷_ 110 (List._∷_ 97 (List._∷_ 95 (List._∷_ 116 (List._∷_ 111 (List._∷_ 108 (List._∷_ 100 (List._∷_ 58
+      (List._∷_ 58 (List._∷_ 65 (List._∷_ 110 (List._∷_ 115 (List._∷_ 119 (List._∷_ 101 (List._∷_ 114 List.[]))))))))))))))))))))))))))))) (Syntax.ttcons (Syntax.tcons (Syntax.tyInt
+      Syntax.w32) Syntax.tnil) (Syntax.ttcons (Syntax.tcons (Syntax.tyEnum (List._∷_ 114 (List._∷_ 101 (List._∷_ 102 (List._∷_ 117 (List._∷_ 115 (List._∷_ 97 (List._∷_ 108 (List._∷_
+      58 (List._∷_ 58 (List._∷_ 82 (List._∷_ 101 (List._∷_ 102 (List._∷_ 117 (List._∷_ 115 (List._∷_ 97 (List._∷_ 108 List.[])))))))))))))))) (Syntax.ttcons Syntax.tnil
       (Syntax.ttcons Syntax.tnil (Syntax.ttcons Syntax.tnil (Syntax.ttcons Syntax.tnil (Syntax.ttcons Syntax.tnil (Syntax.ttcons Syntax.tnil (Syntax.ttcons Syntax.tnil (Syntax.ttcons
-      Syntax.tnil (Syntax.ttcons Syntax.tnil Syntax.ttnil))))))))))))) Syntax.tnil) Syntax.ttnil))),
-) (List._∷_ (1, Rows.whole (Declared'.row Stream.the-type)) (List._∷_ (
-  2,
-  Rows.sslice Of.R (Syntax.tyRef (Syntax.named 0) Syntax.imm Of.tyBy) 0,
-) (List._∷_ (3, Rows.sc-here (Row.sInt Syntax.w64)) (List._∷_ (
-  4,
-  Reshare.mslice-owedS (Array.Array
-      (Referent.rtF (Referent.fInt Syntax.w32)) 3) (Syntax.tyRef (Syntax.named 1) Syntax.mut (Syntax.tyArray (Syntax.tyInt Syntax.w32) 3)) 1 3 Row.off,
+      Syntax.tnil (Syntax.ttcons Syntax.tnil (Syntax.ttcons Syntax.tnil (Syntax.ttcons Syntax.tnil (Syntax.ttcons Syntax.tnil Syntax.ttnil))))))))))))) Syntax.tnil) Syntax.ttnil))),
+) (List._∷_ (1, Rows.whole (Declared'.row Stream.the-type)) (List._∷_ (2, Rows.sslice Of.R (Syntax.tyRef (Syntax.named 0) Syntax.imm Of.tyBy) 0) (List._∷_ (
+  3,
+  Rows.sc-here
+      (Row.sInt Syntax.w64),
 ) (List._∷_ (
-  5,
-  Rows.whole
-      (Declared.row Question.the-type),
-) (List._∷_ (6, Rows.any-gone Syntax.tyUnit) (List._∷_ (
+  4,
+  Reshare.mslice-owedS (Array.Array (Referent.rtF (Referent.fInt Syntax.w32)) 3) (Syntax.tyRef (Syntax.named 1) Syntax.mut (Syntax.tyArray
+      (Syntax.tyInt Syntax.w32) 3)) 1 3 Row.off,
+) (List._∷_ (5, Rows.whole (Declared.row Question.the-type)) (List._∷_ (6, Rows.any-gone Syntax.tyUnit) (List._∷_ (
   7,
-  Rows.any-gone (Syntax.tyRef Syntax.erased Syntax.mut (Syntax.tyArray
-      (Syntax.tyInt Syntax.w32) 3)),
+  Rows.any-gone (Syntax.tyRef Syntax.erased Syntax.mut (Syntax.tyArray (Syntax.tyInt Syntax.w32) 3)),
 ) (List._∷_ (
   8,
-  Rows.any-gone (Syntax.tyStruct (List._∷_ 38 (List._∷_ 91 (List._∷_ 93 List.[]))) (Syntax.tcons (Syntax.tyRef Syntax.erased
-      Syntax.mut (Syntax.tyArray (Syntax.tyInt Syntax.w32) 3)) (Syntax.tcons (Syntax.tyInt Syntax.w64) Syntax.tnil))),
+  Rows.any-gone (Syntax.tyStruct (List._∷_ 38 (List._∷_ 91
+      (List._∷_ 93 List.[]))) (Syntax.tcons (Syntax.tyRef Syntax.erased Syntax.mut (Syntax.tyArray (Syntax.tyInt Syntax.w32) 3)) (Syntax.tcons (Syntax.tyInt Syntax.w64)
+      Syntax.tnil))),
 ) (List._∷_ (
   9,
-  Relend.ssptr (Array.Array (Referent.rtF
-      (Referent.fInt Syntax.w32)) 3) (Syntax.tyRef Syntax.erased Syntax.imm (Syntax.tyArray (Syntax.tyInt Syntax.w32) 3)) 3,
+  Relend.ssptr (Array.Array (Referent.rtF (Referent.fInt Syntax.w32)) 3) (Syntax.tyRef Syntax.erased Syntax.imm (Syntax.tyArray (Syntax.tyInt
+      Syntax.w32) 3)) 3,
 ) (List._∷_ (
   10,
-  Rows.any-gone (Syntax.tyStruct
-      (List._∷_ 38 (List._∷_ 91 (List._∷_ 93 List.[]))) (Syntax.tcons (Syntax.tyRef Syntax.erased Syntax.imm (Syntax.tyArray (Syntax.tyInt Syntax.w32) 3)) (Syntax.tcons (Syntax.tyInt
-      Syntax.w64) Syntax.tnil))),
+  Rows.any-gone (Syntax.tyStruct (List._∷_ 38 (List._∷_ 91 (List._∷_ 93 List.[]))) (Syntax.tcons (Syntax.tyRef Syntax.erased Syntax.imm
+      (Syntax.tyArray (Syntax.tyInt Syntax.w32) 3)) (Syntax.tcons (Syntax.tyInt Syntax.w64) Syntax.tnil))),
 ) List.[]))))))))))
 
 abbrev pub t7 : List.List Row.Entry
 t7 = List._∷_ (
   0,
   Rows.any-gone (Syntax.tyEnum (List._∷_ 103 (List._∷_ 114 (List._∷_ 101 (List._∷_ 101 (List._∷_ 110 (List._∷_ 119 (List._∷_ 97 (List._∷_ 108 (List._∷_ 100
-      (List._∷_ 95 (List._∷_ 107 (List._∷_ 104 (List._∷_ 97 (List._∷_ 110 (List._∷_ 110 (List._∷_ 97 (List._∷_ 58 (List._∷_ 58 (List._∷_ 65 (List._∷_ 110 (List._∷_ 115 (List._∷_ 119
-      (List._∷_ 101 (List._∷_ 114 List.[])))))))))))))))))))))))) (Syntax.ttcons (Syntax.tcons (Syntax.tyInt Syntax.w32) Syntax.tnil) (Syntax.ttcons (Syntax.tcons (Syntax.tyEnum
-      (List._∷_ 114 (List._∷_ 101 (List._∷_ 102 (List._∷_ 117 (List._∷_ 115 (List._∷_ 97 (List._∷_ 108 (List._∷_ 58 (List._∷_ 58 (List._∷_ 82 (List._∷_ 101 (List._∷_ 102 (List._∷_
-      117 (List._∷_ 115 (List._∷_ 97 (List._∷_ 108 List.[])))))))))))))))) (Syntax.ttcons Syntax.tnil (Syntax.ttcons Syntax.tnil (Syntax.ttcons Syntax.tnil (Syntax.ttcons Syntax.tnil
+      (List._∷_ 95 (List._∷_ 107 (List._∷_ 104 (List._∷_ 97 (List._∷_ 110 (List._∷_ 110 (List._∷_ 97 (List._∷_ 95 (List._∷_ 116 (List._∷_ 111 (List._∷_ 108 (List._∷_ 100 (List._∷_ 58
+      (List._∷_ 58 (List._∷_ 65 (List._∷_ 110 (List._∷_ 115 (List._∷_ 119 (List._∷_ 101 (List._∷_ 114 List.[]))))))))))))))))))))))))))))) (Syntax.ttcons (Syntax.tcons (Syntax.tyInt
+      Syntax.w32) Syntax.tnil) (Syntax.ttcons (Syntax.tcons (Syntax.tyEnum (List._∷_ 114 (List._∷_ 101 (List._∷_ 102 (List._∷_ 117 (List._∷_ 115 (List._∷_ 97 (List._∷_ 108 (List._∷_
+      58 (List._∷_ 58 (List._∷_ 82 (List._∷_ 101 (List._∷_ 102 (List._∷_ 117 (List._∷_ 115 (List._∷_ 97 (List._∷_ 108 List.[])))))))))))))))) (Syntax.ttcons Syntax.tnil
       (Syntax.ttcons Syntax.tnil (Syntax.ttcons Syntax.tnil (Syntax.ttcons Syntax.tnil (Syntax.ttcons Syntax.tnil (Syntax.ttcons Syntax.tnil (Syntax.ttcons Syntax.tnil (Syntax.ttcons
-      Syntax.tnil (Syntax.ttcons Syntax.tnil Syntax.ttnil))))))))))))) Syntax.tnil) Syntax.ttnil))),
-) (List._∷_ (1, Rows.whole (Declared'.row Stream.the-type)) (List._∷_ (
-  2,
-  Rows.sslice Of.R (Syntax.tyRef (Syntax.named 0) Syntax.imm Of.tyBy) 0,
-) (List._∷_ (3, Rows.sc-here (Row.sInt Syntax.w64)) (List._∷_ (
-  4,
-  Reshare.mslice-owedS (Array.Array
-      (Referent.rtF (Referent.fInt Syntax.w32)) 3) (Syntax.tyRef (Syntax.named 1) Syntax.mut (Syntax.tyArray (Syntax.tyInt Syntax.w32) 3)) 1 3 Row.off,
+      Syntax.tnil (Syntax.ttcons Syntax.tnil (Syntax.ttcons Syntax.tnil (Syntax.ttcons Syntax.tnil (Syntax.ttcons Syntax.tnil Syntax.ttnil))))))))))))) Syntax.tnil) Syntax.ttnil))),
+) (List._∷_ (1, Rows.whole (Declared'.row Stream.the-type)) (List._∷_ (2, Rows.sslice Of.R (Syntax.tyRef (Syntax.named 0) Syntax.imm Of.tyBy) 0) (List._∷_ (
+  3,
+  Rows.sc-here
+      (Row.sInt Syntax.w64),
 ) (List._∷_ (
-  5,
-  Rows.whole
-      (Declared.row Question.the-type),
-) (List._∷_ (6, Rows.any-gone Syntax.tyUnit) (List._∷_ (
+  4,
+  Reshare.mslice-owedS (Array.Array (Referent.rtF (Referent.fInt Syntax.w32)) 3) (Syntax.tyRef (Syntax.named 1) Syntax.mut (Syntax.tyArray
+      (Syntax.tyInt Syntax.w32) 3)) 1 3 Row.off,
+) (List._∷_ (5, Rows.whole (Declared.row Question.the-type)) (List._∷_ (6, Rows.any-gone Syntax.tyUnit) (List._∷_ (
   7,
-  Rows.any-gone (Syntax.tyRef Syntax.erased Syntax.mut (Syntax.tyArray
-      (Syntax.tyInt Syntax.w32) 3)),
+  Rows.any-gone (Syntax.tyRef Syntax.erased Syntax.mut (Syntax.tyArray (Syntax.tyInt Syntax.w32) 3)),
 ) (List._∷_ (
   8,
-  Rows.any-gone (Syntax.tyStruct (List._∷_ 38 (List._∷_ 91 (List._∷_ 93 List.[]))) (Syntax.tcons (Syntax.tyRef Syntax.erased
-      Syntax.mut (Syntax.tyArray (Syntax.tyInt Syntax.w32) 3)) (Syntax.tcons (Syntax.tyInt Syntax.w64) Syntax.tnil))),
-) (List._∷_ (
-  9,
-  Rows.any-gone (Syntax.tyRef Syntax.erased
-      Syntax.imm (Syntax.tyArray (Syntax.tyInt Syntax.w32) 3)),
-) (List._∷_ (
+  Rows.any-gone (Syntax.tyStruct (List._∷_ 38 (List._∷_ 91
+      (List._∷_ 93 List.[]))) (Syntax.tcons (Syntax.tyRef Syntax.erased Syntax.mut (Syntax.tyArray (Syntax.tyInt Syntax.w32) 3)) (Syntax.tcons (Syntax.tyInt Syntax.w64)
+      Syntax.tnil))),
+) (List._∷_ (9, Rows.any-gone (Syntax.tyRef Syntax.erased Syntax.imm (Syntax.tyArray (Syntax.tyInt Syntax.w32) 3))) (List._∷_ (
   10,
-  Rows.sslice (Array.Array (Referent.rtF (Referent.fInt Syntax.w32)) 3) (Syntax.tyRef Syntax.erased
-      Syntax.imm (Syntax.tyArray (Syntax.tyInt Syntax.w32) 3)) 3,
+  Rows.sslice (Array.Array
+      (Referent.rtF (Referent.fInt Syntax.w32)) 3) (Syntax.tyRef Syntax.erased Syntax.imm (Syntax.tyArray (Syntax.tyInt Syntax.w32) 3)) 3,
 ) List.[]))))))))))
 
 abbrev pub t8 : List.List Row.Entry
@@ -816,12 +798,12 @@ module _ (claims· : Claims) where
     ),
   ) 0 (List._∷_ 3 List.[])
       (Syntax.tyEnum (List._∷_ 103 (List._∷_ 114 (List._∷_ 101 (List._∷_ 101 (List._∷_ 110 (List._∷_ 119 (List._∷_ 97 (List._∷_ 108 (List._∷_ 100 (List._∷_ 95 (List._∷_ 107
-      (List._∷_ 104 (List._∷_ 97 (List._∷_ 110 (List._∷_ 110 (List._∷_ 97 (List._∷_ 58 (List._∷_ 58 (List._∷_ 65 (List._∷_ 110 (List._∷_ 115 (List._∷_ 119 (List._∷_ 101 (List._∷_
-      114 List.[])))))))))))))))))))))))) (Syntax.ttcons (Syntax.tcons (Syntax.tyInt Syntax.w32) Syntax.tnil) (Syntax.ttcons (Syntax.tcons (Syntax.tyEnum (List._∷_ 114 (List._∷_
-      101 (List._∷_ 102 (List._∷_ 117 (List._∷_ 115 (List._∷_ 97 (List._∷_ 108 (List._∷_ 58 (List._∷_ 58 (List._∷_ 82 (List._∷_ 101 (List._∷_ 102 (List._∷_ 117 (List._∷_ 115
-      (List._∷_ 97 (List._∷_ 108 List.[])))))))))))))))) (Syntax.ttcons Syntax.tnil (Syntax.ttcons Syntax.tnil (Syntax.ttcons Syntax.tnil (Syntax.ttcons Syntax.tnil (Syntax.ttcons
+      (List._∷_ 104 (List._∷_ 97 (List._∷_ 110 (List._∷_ 110 (List._∷_ 97 (List._∷_ 95 (List._∷_ 116 (List._∷_ 111 (List._∷_ 108 (List._∷_ 100 (List._∷_ 58 (List._∷_ 58 (List._∷_
+      65 (List._∷_ 110 (List._∷_ 115 (List._∷_ 119 (List._∷_ 101 (List._∷_ 114 List.[]))))))))))))))))))))))))))))) (Syntax.ttcons (Syntax.tcons (Syntax.tyInt Syntax.w32)
+      Syntax.tnil) (Syntax.ttcons (Syntax.tcons (Syntax.tyEnum (List._∷_ 114 (List._∷_ 101 (List._∷_ 102 (List._∷_ 117 (List._∷_ 115 (List._∷_ 97 (List._∷_ 108 (List._∷_ 58
+      (List._∷_ 58 (List._∷_ 82 (List._∷_ 101 (List._∷_ 102 (List._∷_ 117 (List._∷_ 115 (List._∷_ 97 (List._∷_ 108 List.[])))))))))))))))) (Syntax.ttcons Syntax.tnil (Syntax.ttcons
       Syntax.tnil (Syntax.ttcons Syntax.tnil (Syntax.ttcons Syntax.tnil (Syntax.ttcons Syntax.tnil (Syntax.ttcons Syntax.tnil (Syntax.ttcons Syntax.tnil (Syntax.ttcons Syntax.tnil
-      (Syntax.ttcons Syntax.tnil Syntax.ttnil))))))))))))) Syntax.tnil) Syntax.ttnil)))
+      (Syntax.ttcons Syntax.tnil (Syntax.ttcons Syntax.tnil (Syntax.ttcons Syntax.tnil (Syntax.ttcons Syntax.tnil Syntax.ttnil))))))))))))) Syntax.tnil) Syntax.ttnil)))
 
   abbrev s12 : Typed.Mo T13 → Typed.Mo T14
   s12 = Scalar.n-room T13 10 (Syntax.tyStruct (List._∷_ 38 (List._∷_ 91 (List._∷_ 93 List.[]))) (Syntax.tcons (Syntax.tyRef Syntax.erased Syntax.imm (Syntax.tyArray (Syntax.tyInt
@@ -931,210 +913,221 @@ module _ (claims· : Claims) where
         g2 = List._∷_ (
           0,
           Rows.any-gone (Syntax.tyEnum (List._∷_ 103 (List._∷_ 114 (List._∷_ 101 (List._∷_ 101 (List._∷_ 110 (List._∷_ 119 (List._∷_ 97 (List._∷_ 108 (List._∷_ 100
-              (List._∷_ 95 (List._∷_ 107 (List._∷_ 104 (List._∷_ 97 (List._∷_ 110 (List._∷_ 110 (List._∷_ 97 (List._∷_ 58 (List._∷_ 58 (List._∷_ 65 (List._∷_ 110 (List._∷_ 115
-              (List._∷_ 119 (List._∷_ 101 (List._∷_ 114 List.[])))))))))))))))))))))))) (Syntax.ttcons (Syntax.tcons (Syntax.tyInt Syntax.w32) Syntax.tnil) (Syntax.ttcons
-              (Syntax.tcons (Syntax.tyEnum (List._∷_ 114 (List._∷_ 101 (List._∷_ 102 (List._∷_ 117 (List._∷_ 115 (List._∷_ 97 (List._∷_ 108 (List._∷_ 58 (List._∷_ 58 (List._∷_ 82
-              (List._∷_ 101 (List._∷_ 102 (List._∷_ 117 (List._∷_ 115 (List._∷_ 97 (List._∷_ 108 List.[])))))))))))))))) (Syntax.ttcons Syntax.tnil (Syntax.ttcons Syntax.tnil
+              (List._∷_ 95 (List._∷_ 107 (List._∷_ 104 (List._∷_ 97 (List._∷_ 110 (List._∷_ 110 (List._∷_ 97 (List._∷_ 95 (List._∷_ 116 (List._∷_ 111 (List._∷_ 108 (List._∷_ 100
+              (List._∷_ 58 (List._∷_ 58 (List._∷_ 65 (List._∷_ 110 (List._∷_ 115 (List._∷_ 119 (List._∷_ 101 (List._∷_ 114 List.[]))))))))))))))))))))))))))))) (Syntax.ttcons
+              (Syntax.tcons (Syntax.tyInt Syntax.w32) Syntax.tnil) (Syntax.ttcons (Syntax.tcons (Syntax.tyEnum (List._∷_ 114 (List._∷_ 101 (List._∷_ 102 (List._∷_ 117 (List._∷_ 115
+              (List._∷_ 97 (List._∷_ 108 (List._∷_ 58 (List._∷_ 58 (List._∷_ 82 (List._∷_ 101 (List._∷_ 102 (List._∷_ 117 (List._∷_ 115 (List._∷_ 97 (List._∷_ 108
+              List.[])))))))))))))))) (Syntax.ttcons Syntax.tnil (Syntax.ttcons Syntax.tnil (Syntax.ttcons Syntax.tnil (Syntax.ttcons Syntax.tnil (Syntax.ttcons Syntax.tnil
               (Syntax.ttcons Syntax.tnil (Syntax.ttcons Syntax.tnil (Syntax.ttcons Syntax.tnil (Syntax.ttcons Syntax.tnil (Syntax.ttcons Syntax.tnil (Syntax.ttcons Syntax.tnil
-              (Syntax.ttcons Syntax.tnil (Syntax.ttcons Syntax.tnil (Syntax.ttcons Syntax.tnil (Syntax.ttcons Syntax.tnil Syntax.ttnil))))))))))))) Syntax.tnil) Syntax.ttnil))),
-        )
-            (List._∷_ (1, Rows.whole (Declared'.row Stream.the-type)) (List._∷_ (2, Rows.sslice Of.R (Syntax.tyRef (Syntax.named 0) Syntax.imm Of.tyBy) 0) (List._∷_ (
-              3,
-              Rows.sc-here (Row.sInt Syntax.w64),
-            ) (List._∷_ (
-              4,
-              Relend.mslice-owed (Array.Array (Referent.rtF (Referent.fInt Syntax.w32)) 3) (Syntax.tyRef (Syntax.named 1)
-                  Syntax.mut (Syntax.tyArray (Syntax.tyInt Syntax.w32) 3)) 1 2 (Row.lease (κs .1 .0) (qs .1 .0)),
-            ) (List._∷_ (5, Rows.whole (Declared.row Question.the-type)) (List._∷_ (
-              6,
-              Rows.any-gone Syntax.tyUnit,
-            ) (List._∷_ (
-              7,
-              Relend.msptr (Array.Array (Referent.rtF (Referent.fInt Syntax.w32)) 3) (Syntax.tyRef Syntax.erased Syntax.mut
-                  (Syntax.tyArray (Syntax.tyInt Syntax.w32) 3)) 2,
-            ) (List._∷_ (
-              8,
-              Rows.any-gone (Syntax.tyStruct (List._∷_ 38 (List._∷_ 91 (List._∷_ 93 List.[]))) (Syntax.tcons
-                  (Syntax.tyRef Syntax.erased Syntax.mut (Syntax.tyArray (Syntax.tyInt Syntax.w32) 3)) (Syntax.tcons (Syntax.tyInt Syntax.w64) Syntax.tnil))),
-            ) (List._∷_ (
-              9,
-              Rows.any-gone (Syntax.tyRef Syntax.erased Syntax.imm (Syntax.tyArray (Syntax.tyInt Syntax.w32) 3)),
-            ) (List._∷_ (
-              10,
-              Rows.any-gone (Syntax.tyStruct (List._∷_ 38
-                  (List._∷_ 91 (List._∷_ 93 List.[]))) (Syntax.tcons (Syntax.tyRef Syntax.erased Syntax.imm (Syntax.tyArray (Syntax.tyInt Syntax.w32) 3)) (Syntax.tcons (Syntax.tyInt
-                  Syntax.w64) Syntax.tnil))),
-            ) List.[]))))))))))
+              (Syntax.ttcons Syntax.tnil Syntax.ttnil))))))))))))) Syntax.tnil) Syntax.ttnil))),
+        ) (List._∷_ (1, Rows.whole (Declared'.row Stream.the-type)) (List._∷_ (
+          2,
+          Rows.sslice Of.R (Syntax.tyRef (Syntax.named 0) Syntax.imm Of.tyBy) 0,
+        ) (List._∷_ (3, Rows.sc-here (Row.sInt Syntax.w64)) (List._∷_ (
+          4,
+          Relend.mslice-owed
+              (Array.Array (Referent.rtF (Referent.fInt Syntax.w32)) 3) (Syntax.tyRef (Syntax.named 1) Syntax.mut (Syntax.tyArray (Syntax.tyInt Syntax.w32) 3)) 1 2 (Row.lease (κs .1
+              .0) (qs .1 .0)),
+        ) (List._∷_ (5, Rows.whole (Declared.row Question.the-type)) (List._∷_ (6, Rows.any-gone Syntax.tyUnit) (List._∷_ (
+          7,
+          Relend.msptr (Array.Array
+              (Referent.rtF (Referent.fInt Syntax.w32)) 3) (Syntax.tyRef Syntax.erased Syntax.mut (Syntax.tyArray (Syntax.tyInt Syntax.w32) 3)) 2,
+        ) (List._∷_ (
+          8,
+          Rows.any-gone
+              (Syntax.tyStruct (List._∷_ 38 (List._∷_ 91 (List._∷_ 93 List.[]))) (Syntax.tcons (Syntax.tyRef Syntax.erased Syntax.mut (Syntax.tyArray (Syntax.tyInt Syntax.w32) 3))
+              (Syntax.tcons (Syntax.tyInt Syntax.w64) Syntax.tnil))),
+        ) (List._∷_ (
+          9,
+          Rows.any-gone (Syntax.tyRef Syntax.erased Syntax.imm (Syntax.tyArray (Syntax.tyInt Syntax.w32)
+              3)),
+        ) (List._∷_ (
+          10,
+          Rows.any-gone (Syntax.tyStruct (List._∷_ 38 (List._∷_ 91 (List._∷_ 93 List.[]))) (Syntax.tcons (Syntax.tyRef Syntax.erased Syntax.imm
+              (Syntax.tyArray (Syntax.tyInt Syntax.w32) 3)) (Syntax.tcons (Syntax.tyInt Syntax.w64) Syntax.tnil))),
+        ) List.[]))))))))))
 
         abbrev g3 : List.List Row.Entry
         g3 = List._∷_ (
           0,
           Rows.any-gone (Syntax.tyEnum (List._∷_ 103 (List._∷_ 114 (List._∷_ 101 (List._∷_ 101 (List._∷_ 110 (List._∷_ 119 (List._∷_ 97 (List._∷_ 108 (List._∷_ 100
-              (List._∷_ 95 (List._∷_ 107 (List._∷_ 104 (List._∷_ 97 (List._∷_ 110 (List._∷_ 110 (List._∷_ 97 (List._∷_ 58 (List._∷_ 58 (List._∷_ 65 (List._∷_ 110 (List._∷_ 115
-              (List._∷_ 119 (List._∷_ 101 (List._∷_ 114 List.[])))))))))))))))))))))))) (Syntax.ttcons (Syntax.tcons (Syntax.tyInt Syntax.w32) Syntax.tnil) (Syntax.ttcons
-              (Syntax.tcons (Syntax.tyEnum (List._∷_ 114 (List._∷_ 101 (List._∷_ 102 (List._∷_ 117 (List._∷_ 115 (List._∷_ 97 (List._∷_ 108 (List._∷_ 58 (List._∷_ 58 (List._∷_ 82
-              (List._∷_ 101 (List._∷_ 102 (List._∷_ 117 (List._∷_ 115 (List._∷_ 97 (List._∷_ 108 List.[])))))))))))))))) (Syntax.ttcons Syntax.tnil (Syntax.ttcons Syntax.tnil
+              (List._∷_ 95 (List._∷_ 107 (List._∷_ 104 (List._∷_ 97 (List._∷_ 110 (List._∷_ 110 (List._∷_ 97 (List._∷_ 95 (List._∷_ 116 (List._∷_ 111 (List._∷_ 108 (List._∷_ 100
+              (List._∷_ 58 (List._∷_ 58 (List._∷_ 65 (List._∷_ 110 (List._∷_ 115 (List._∷_ 119 (List._∷_ 101 (List._∷_ 114 List.[]))))))))))))))))))))))))))))) (Syntax.ttcons
+              (Syntax.tcons (Syntax.tyInt Syntax.w32) Syntax.tnil) (Syntax.ttcons (Syntax.tcons (Syntax.tyEnum (List._∷_ 114 (List._∷_ 101 (List._∷_ 102 (List._∷_ 117 (List._∷_ 115
+              (List._∷_ 97 (List._∷_ 108 (List._∷_ 58 (List._∷_ 58 (List._∷_ 82 (List._∷_ 101 (List._∷_ 102 (List._∷_ 117 (List._∷_ 115 (List._∷_ 97 (List._∷_ 108
+              List.[])))))))))))))))) (Syntax.ttcons Syntax.tnil (Syntax.ttcons Syntax.tnil (Syntax.ttcons Syntax.tnil (Syntax.ttcons Syntax.tnil (Syntax.ttcons Syntax.tnil
               (Syntax.ttcons Syntax.tnil (Syntax.ttcons Syntax.tnil (Syntax.ttcons Syntax.tnil (Syntax.ttcons Syntax.tnil (Syntax.ttcons Syntax.tnil (Syntax.ttcons Syntax.tnil
-              (Syntax.ttcons Syntax.tnil (Syntax.ttcons Syntax.tnil (Syntax.ttcons Syntax.tnil (Syntax.ttcons Syntax.tnil Syntax.ttnil))))))))))))) Syntax.tnil) Syntax.ttnil))),
-        )
-            (List._∷_ (1, Rows.whole (Declared'.row Stream.the-type)) (List._∷_ (2, Rows.sslice Of.R (Syntax.tyRef (Syntax.named 0) Syntax.imm Of.tyBy) 0) (List._∷_ (
-              3,
-              Rows.sc-here (Row.sInt Syntax.w64),
-            ) (List._∷_ (
-              4,
-              Relend.mslice-owed (Array.Array (Referent.rtF (Referent.fInt Syntax.w32)) 3) (Syntax.tyRef (Syntax.named 1)
-                  Syntax.mut (Syntax.tyArray (Syntax.tyInt Syntax.w32) 3)) 1 2 (Row.lease (κs .1 .0) (qs .1 .0)),
-            ) (List._∷_ (5, Rows.whole (Declared.row Question.the-type)) (List._∷_ (
-              6,
-              Rows.any-gone Syntax.tyUnit,
-            ) (List._∷_ (7, Rows.any-gone (Syntax.tyRef Syntax.erased Syntax.mut (Syntax.tyArray (Syntax.tyInt Syntax.w32) 3))) (List._∷_ (
-              8,
-              Mut.mslice (Array.Array (Referent.rtF (Referent.fInt Syntax.w32)) 3) (Syntax.tyRef Syntax.erased Syntax.mut (Syntax.tyArray (Syntax.tyInt Syntax.w32) 3)) 2,
-            ) (List._∷_
-            (9, Rows.any-gone (Syntax.tyRef Syntax.erased Syntax.imm (Syntax.tyArray (Syntax.tyInt Syntax.w32) 3))) (List._∷_ (
-              10,
-              Rows.any-gone (Syntax.tyStruct (List._∷_ 38
-                  (List._∷_ 91 (List._∷_ 93 List.[]))) (Syntax.tcons (Syntax.tyRef Syntax.erased Syntax.imm (Syntax.tyArray (Syntax.tyInt Syntax.w32) 3)) (Syntax.tcons (Syntax.tyInt
-                  Syntax.w64) Syntax.tnil))),
-            ) List.[]))))))))))
+              (Syntax.ttcons Syntax.tnil Syntax.ttnil))))))))))))) Syntax.tnil) Syntax.ttnil))),
+        ) (List._∷_ (1, Rows.whole (Declared'.row Stream.the-type)) (List._∷_ (
+          2,
+          Rows.sslice Of.R (Syntax.tyRef (Syntax.named 0) Syntax.imm Of.tyBy) 0,
+        ) (List._∷_ (3, Rows.sc-here (Row.sInt Syntax.w64)) (List._∷_ (
+          4,
+          Relend.mslice-owed
+              (Array.Array (Referent.rtF (Referent.fInt Syntax.w32)) 3) (Syntax.tyRef (Syntax.named 1) Syntax.mut (Syntax.tyArray (Syntax.tyInt Syntax.w32) 3)) 1 2 (Row.lease (κs .1
+              .0) (qs .1 .0)),
+        ) (List._∷_ (5, Rows.whole (Declared.row Question.the-type)) (List._∷_ (6, Rows.any-gone Syntax.tyUnit) (List._∷_ (
+          7,
+          Rows.any-gone (Syntax.tyRef
+              Syntax.erased Syntax.mut (Syntax.tyArray (Syntax.tyInt Syntax.w32) 3)),
+        ) (List._∷_ (
+          8,
+          Mut.mslice (Array.Array (Referent.rtF (Referent.fInt Syntax.w32)) 3)
+              (Syntax.tyRef Syntax.erased Syntax.mut (Syntax.tyArray (Syntax.tyInt Syntax.w32) 3)) 2,
+        ) (List._∷_ (
+          9,
+          Rows.any-gone (Syntax.tyRef Syntax.erased Syntax.imm
+              (Syntax.tyArray (Syntax.tyInt Syntax.w32) 3)),
+        ) (List._∷_ (
+          10,
+          Rows.any-gone (Syntax.tyStruct (List._∷_ 38 (List._∷_ 91 (List._∷_ 93 List.[]))) (Syntax.tcons
+              (Syntax.tyRef Syntax.erased Syntax.imm (Syntax.tyArray (Syntax.tyInt Syntax.w32) 3)) (Syntax.tcons (Syntax.tyInt Syntax.w64) Syntax.tnil))),
+        ) List.[]))))))))))
 
         abbrev g4 : List.List Row.Entry
         g4 = List._∷_ (
           0,
           Rows.any-gone (Syntax.tyEnum (List._∷_ 103 (List._∷_ 114 (List._∷_ 101 (List._∷_ 101 (List._∷_ 110 (List._∷_ 119 (List._∷_ 97 (List._∷_ 108 (List._∷_ 100
-              (List._∷_ 95 (List._∷_ 107 (List._∷_ 104 (List._∷_ 97 (List._∷_ 110 (List._∷_ 110 (List._∷_ 97 (List._∷_ 58 (List._∷_ 58 (List._∷_ 65 (List._∷_ 110 (List._∷_ 115
-              (List._∷_ 119 (List._∷_ 101 (List._∷_ 114 List.[])))))))))))))))))))))))) (Syntax.ttcons (Syntax.tcons (Syntax.tyInt Syntax.w32) Syntax.tnil) (Syntax.ttcons
-              (Syntax.tcons (Syntax.tyEnum (List._∷_ 114 (List._∷_ 101 (List._∷_ 102 (List._∷_ 117 (List._∷_ 115 (List._∷_ 97 (List._∷_ 108 (List._∷_ 58 (List._∷_ 58 (List._∷_ 82
-              (List._∷_ 101 (List._∷_ 102 (List._∷_ 117 (List._∷_ 115 (List._∷_ 97 (List._∷_ 108 List.[])))))))))))))))) (Syntax.ttcons Syntax.tnil (Syntax.ttcons Syntax.tnil
+              (List._∷_ 95 (List._∷_ 107 (List._∷_ 104 (List._∷_ 97 (List._∷_ 110 (List._∷_ 110 (List._∷_ 97 (List._∷_ 95 (List._∷_ 116 (List._∷_ 111 (List._∷_ 108 (List._∷_ 100
+              (List._∷_ 58 (List._∷_ 58 (List._∷_ 65 (List._∷_ 110 (List._∷_ 115 (List._∷_ 119 (List._∷_ 101 (List._∷_ 114 List.[]))))))))))))))))))))))))))))) (Syntax.ttcons
+              (Syntax.tcons (Syntax.tyInt Syntax.w32) Syntax.tnil) (Syntax.ttcons (Syntax.tcons (Syntax.tyEnum (List._∷_ 114 (List._∷_ 101 (List._∷_ 102 (List._∷_ 117 (List._∷_ 115
+              (List._∷_ 97 (List._∷_ 108 (List._∷_ 58 (List._∷_ 58 (List._∷_ 82 (List._∷_ 101 (List._∷_ 102 (List._∷_ 117 (List._∷_ 115 (List._∷_ 97 (List._∷_ 108
+              List.[])))))))))))))))) (Syntax.ttcons Syntax.tnil (Syntax.ttcons Syntax.tnil (Syntax.ttcons Syntax.tnil (Syntax.ttcons Syntax.tnil (Syntax.ttcons Syntax.tnil
               (Syntax.ttcons Syntax.tnil (Syntax.ttcons Syntax.tnil (Syntax.ttcons Syntax.tnil (Syntax.ttcons Syntax.tnil (Syntax.ttcons Syntax.tnil (Syntax.ttcons Syntax.tnil
-              (Syntax.ttcons Syntax.tnil (Syntax.ttcons Syntax.tnil (Syntax.ttcons Syntax.tnil (Syntax.ttcons Syntax.tnil Syntax.ttnil))))))))))))) Syntax.tnil) Syntax.ttnil))),
-        )
-            (List._∷_ (1, Rows.whole (Declared'.row Stream.the-type)) (List._∷_ (2, Rows.sslice Of.R (Syntax.tyRef (Syntax.named 0) Syntax.imm Of.tyBy) 0) (List._∷_ (
-              3,
-              Rows.sc-here (Row.sInt Syntax.w64),
-            ) (List._∷_ (
-              4,
-              Relend.mslice-owed (Array.Array (Referent.rtF (Referent.fInt Syntax.w32)) 3) (Syntax.tyRef (Syntax.named 1)
-                  Syntax.mut (Syntax.tyArray (Syntax.tyInt Syntax.w32) 3)) 1 2 (Row.lease (κs .1 .0) (qs .1 .0)),
-            ) (List._∷_ (5, Rows.whole (Declared.row Question.the-type)) (List._∷_ (
-              6,
-              Rows.sc-here Row.sUnit,
-            ) (List._∷_ (7, Rows.any-gone (Syntax.tyRef Syntax.erased Syntax.mut (Syntax.tyArray (Syntax.tyInt Syntax.w32) 3))) (List._∷_ (
-              8,
-              Mut.msleft (Array.Array (Referent.rtF (Referent.fInt Syntax.w32)) 3) (Syntax.tyRef Syntax.erased Syntax.mut (Syntax.tyArray (Syntax.tyInt Syntax.w32) 3)),
-            ) (List._∷_ (
-              9,
-              Rows.any-gone (Syntax.tyRef Syntax.erased Syntax.imm (Syntax.tyArray (Syntax.tyInt Syntax.w32) 3)),
-            ) (List._∷_ (
-              10,
-              Rows.any-gone (Syntax.tyStruct (List._∷_ 38
-                  (List._∷_ 91 (List._∷_ 93 List.[]))) (Syntax.tcons (Syntax.tyRef Syntax.erased Syntax.imm (Syntax.tyArray (Syntax.tyInt Syntax.w32) 3)) (Syntax.tcons (Syntax.tyInt
-                  Syntax.w64) Syntax.tnil))),
-            ) List.[]))))))))))
+              (Syntax.ttcons Syntax.tnil Syntax.ttnil))))))))))))) Syntax.tnil) Syntax.ttnil))),
+        ) (List._∷_ (1, Rows.whole (Declared'.row Stream.the-type)) (List._∷_ (
+          2,
+          Rows.sslice Of.R (Syntax.tyRef (Syntax.named 0) Syntax.imm Of.tyBy) 0,
+        ) (List._∷_ (3, Rows.sc-here (Row.sInt Syntax.w64)) (List._∷_ (
+          4,
+          Relend.mslice-owed
+              (Array.Array (Referent.rtF (Referent.fInt Syntax.w32)) 3) (Syntax.tyRef (Syntax.named 1) Syntax.mut (Syntax.tyArray (Syntax.tyInt Syntax.w32) 3)) 1 2 (Row.lease (κs .1
+              .0) (qs .1 .0)),
+        ) (List._∷_ (5, Rows.whole (Declared.row Question.the-type)) (List._∷_ (6, Rows.sc-here Row.sUnit) (List._∷_ (
+          7,
+          Rows.any-gone (Syntax.tyRef
+              Syntax.erased Syntax.mut (Syntax.tyArray (Syntax.tyInt Syntax.w32) 3)),
+        ) (List._∷_ (
+          8,
+          Mut.msleft (Array.Array (Referent.rtF (Referent.fInt Syntax.w32)) 3)
+              (Syntax.tyRef Syntax.erased Syntax.mut (Syntax.tyArray (Syntax.tyInt Syntax.w32) 3)),
+        ) (List._∷_ (
+          9,
+          Rows.any-gone (Syntax.tyRef Syntax.erased Syntax.imm
+              (Syntax.tyArray (Syntax.tyInt Syntax.w32) 3)),
+        ) (List._∷_ (
+          10,
+          Rows.any-gone (Syntax.tyStruct (List._∷_ 38 (List._∷_ 91 (List._∷_ 93 List.[]))) (Syntax.tcons
+              (Syntax.tyRef Syntax.erased Syntax.imm (Syntax.tyArray (Syntax.tyInt Syntax.w32) 3)) (Syntax.tcons (Syntax.tyInt Syntax.w64) Syntax.tnil))),
+        ) List.[]))))))))))
 
         abbrev g5 : List.List Row.Entry
         g5 = List._∷_ (
           0,
           Rows.any-gone (Syntax.tyEnum (List._∷_ 103 (List._∷_ 114 (List._∷_ 101 (List._∷_ 101 (List._∷_ 110 (List._∷_ 119 (List._∷_ 97 (List._∷_ 108 (List._∷_ 100
-              (List._∷_ 95 (List._∷_ 107 (List._∷_ 104 (List._∷_ 97 (List._∷_ 110 (List._∷_ 110 (List._∷_ 97 (List._∷_ 58 (List._∷_ 58 (List._∷_ 65 (List._∷_ 110 (List._∷_ 115
-              (List._∷_ 119 (List._∷_ 101 (List._∷_ 114 List.[])))))))))))))))))))))))) (Syntax.ttcons (Syntax.tcons (Syntax.tyInt Syntax.w32) Syntax.tnil) (Syntax.ttcons
-              (Syntax.tcons (Syntax.tyEnum (List._∷_ 114 (List._∷_ 101 (List._∷_ 102 (List._∷_ 117 (List._∷_ 115 (List._∷_ 97 (List._∷_ 108 (List._∷_ 58 (List._∷_ 58 (List._∷_ 82
-              (List._∷_ 101 (List._∷_ 102 (List._∷_ 117 (List._∷_ 115 (List._∷_ 97 (List._∷_ 108 List.[])))))))))))))))) (Syntax.ttcons Syntax.tnil (Syntax.ttcons Syntax.tnil
+              (List._∷_ 95 (List._∷_ 107 (List._∷_ 104 (List._∷_ 97 (List._∷_ 110 (List._∷_ 110 (List._∷_ 97 (List._∷_ 95 (List._∷_ 116 (List._∷_ 111 (List._∷_ 108 (List._∷_ 100
+              (List._∷_ 58 (List._∷_ 58 (List._∷_ 65 (List._∷_ 110 (List._∷_ 115 (List._∷_ 119 (List._∷_ 101 (List._∷_ 114 List.[]))))))))))))))))))))))))))))) (Syntax.ttcons
+              (Syntax.tcons (Syntax.tyInt Syntax.w32) Syntax.tnil) (Syntax.ttcons (Syntax.tcons (Syntax.tyEnum (List._∷_ 114 (List._∷_ 101 (List._∷_ 102 (List._∷_ 117 (List._∷_ 115
+              (List._∷_ 97 (List._∷_ 108 (List._∷_ 58 (List._∷_ 58 (List._∷_ 82 (List._∷_ 101 (List._∷_ 102 (List._∷_ 117 (List._∷_ 115 (List._∷_ 97 (List._∷_ 108
+              List.[])))))))))))))))) (Syntax.ttcons Syntax.tnil (Syntax.ttcons Syntax.tnil (Syntax.ttcons Syntax.tnil (Syntax.ttcons Syntax.tnil (Syntax.ttcons Syntax.tnil
               (Syntax.ttcons Syntax.tnil (Syntax.ttcons Syntax.tnil (Syntax.ttcons Syntax.tnil (Syntax.ttcons Syntax.tnil (Syntax.ttcons Syntax.tnil (Syntax.ttcons Syntax.tnil
-              (Syntax.ttcons Syntax.tnil (Syntax.ttcons Syntax.tnil (Syntax.ttcons Syntax.tnil (Syntax.ttcons Syntax.tnil Syntax.ttnil))))))))))))) Syntax.tnil) Syntax.ttnil))),
-        )
-            (List._∷_ (1, Rows.whole (Declared'.row Stream.the-type)) (List._∷_ (2, Rows.sslice Of.R (Syntax.tyRef (Syntax.named 0) Syntax.imm Of.tyBy) 0) (List._∷_ (
-              3,
-              Rows.sc-here (Row.sInt Syntax.w64),
-            ) (List._∷_ (
-              4,
-              Relend.mslice-owed (Array.Array (Referent.rtF (Referent.fInt Syntax.w32)) 3) (Syntax.tyRef (Syntax.named 1)
-                  Syntax.mut (Syntax.tyArray (Syntax.tyInt Syntax.w32) 3)) 1 2 (Row.lease (κs .1 .0) (qs .1 .0)),
-            ) (List._∷_ (5, Rows.whole (Declared.row Question.the-type)) (List._∷_ (
-              6,
-              Rows.any-gone Syntax.tyUnit,
-            ) (List._∷_ (7, Rows.any-gone (Syntax.tyRef Syntax.erased Syntax.mut (Syntax.tyArray (Syntax.tyInt Syntax.w32) 3))) (List._∷_ (
-              8,
-              Mut.msleft (Array.Array (Referent.rtF (Referent.fInt Syntax.w32)) 3) (Syntax.tyRef Syntax.erased Syntax.mut (Syntax.tyArray (Syntax.tyInt Syntax.w32) 3)),
-            ) (List._∷_ (
-              9,
-              Rows.any-gone (Syntax.tyRef Syntax.erased Syntax.imm (Syntax.tyArray (Syntax.tyInt Syntax.w32) 3)),
-            ) (List._∷_ (
-              10,
-              Rows.any-gone (Syntax.tyStruct (List._∷_ 38
-                  (List._∷_ 91 (List._∷_ 93 List.[]))) (Syntax.tcons (Syntax.tyRef Syntax.erased Syntax.imm (Syntax.tyArray (Syntax.tyInt Syntax.w32) 3)) (Syntax.tcons (Syntax.tyInt
-                  Syntax.w64) Syntax.tnil))),
-            ) List.[]))))))))))
+              (Syntax.ttcons Syntax.tnil Syntax.ttnil))))))))))))) Syntax.tnil) Syntax.ttnil))),
+        ) (List._∷_ (1, Rows.whole (Declared'.row Stream.the-type)) (List._∷_ (
+          2,
+          Rows.sslice Of.R (Syntax.tyRef (Syntax.named 0) Syntax.imm Of.tyBy) 0,
+        ) (List._∷_ (3, Rows.sc-here (Row.sInt Syntax.w64)) (List._∷_ (
+          4,
+          Relend.mslice-owed
+              (Array.Array (Referent.rtF (Referent.fInt Syntax.w32)) 3) (Syntax.tyRef (Syntax.named 1) Syntax.mut (Syntax.tyArray (Syntax.tyInt Syntax.w32) 3)) 1 2 (Row.lease (κs .1
+              .0) (qs .1 .0)),
+        ) (List._∷_ (5, Rows.whole (Declared.row Question.the-type)) (List._∷_ (6, Rows.any-gone Syntax.tyUnit) (List._∷_ (
+          7,
+          Rows.any-gone (Syntax.tyRef
+              Syntax.erased Syntax.mut (Syntax.tyArray (Syntax.tyInt Syntax.w32) 3)),
+        ) (List._∷_ (
+          8,
+          Mut.msleft (Array.Array (Referent.rtF (Referent.fInt Syntax.w32)) 3)
+              (Syntax.tyRef Syntax.erased Syntax.mut (Syntax.tyArray (Syntax.tyInt Syntax.w32) 3)),
+        ) (List._∷_ (
+          9,
+          Rows.any-gone (Syntax.tyRef Syntax.erased Syntax.imm
+              (Syntax.tyArray (Syntax.tyInt Syntax.w32) 3)),
+        ) (List._∷_ (
+          10,
+          Rows.any-gone (Syntax.tyStruct (List._∷_ 38 (List._∷_ 91 (List._∷_ 93 List.[]))) (Syntax.tcons
+              (Syntax.tyRef Syntax.erased Syntax.imm (Syntax.tyArray (Syntax.tyInt Syntax.w32) 3)) (Syntax.tcons (Syntax.tyInt Syntax.w64) Syntax.tnil))),
+        ) List.[]))))))))))
 
         abbrev g6 : List.List Row.Entry
         g6 = List._∷_ (
           0,
           Rows.any-gone (Syntax.tyEnum (List._∷_ 103 (List._∷_ 114 (List._∷_ 101 (List._∷_ 101 (List._∷_ 110 (List._∷_ 119 (List._∷_ 97 (List._∷_ 108 (List._∷_ 100
-              (List._∷_ 95 (List._∷_ 107 (List._∷_ 104 (List._∷_ 97 (List._∷_ 110 (List._∷_ 110 (List._∷_ 97 (List._∷_ 58 (List._∷_ 58 (List._∷_ 65 (List._∷_ 110 (List._∷_ 115
-              (List._∷_ 119 (List._∷_ 101 (List._∷_ 114 List.[])))))))))))))))))))))))) (Syntax.ttcons (Syntax.tcons (Syntax.tyInt Syntax.w32) Syntax.tnil) (Syntax.ttcons
-              (Syntax.tcons (Syntax.tyEnum (List._∷_ 114 (List._∷_ 101 (List._∷_ 102 (List._∷_ 117 (List._∷_ 115 (List._∷_ 97 (List._∷_ 108 (List._∷_ 58 (List._∷_ 58 (List._∷_ 82
-              (List._∷_ 101 (List._∷_ 102 (List._∷_ 117 (List._∷_ 115 (List._∷_ 97 (List._∷_ 108 List.[])))))))))))))))) (Syntax.ttcons Syntax.tnil (Syntax.ttcons Syntax.tnil
+              (List._∷_ 95 (List._∷_ 107 (List._∷_ 104 (List._∷_ 97 (List._∷_ 110 (List._∷_ 110 (List._∷_ 97 (List._∷_ 95 (List._∷_ 116 (List._∷_ 111 (List._∷_ 108 (List._∷_ 100
+              (List._∷_ 58 (List._∷_ 58 (List._∷_ 65 (List._∷_ 110 (List._∷_ 115 (List._∷_ 119 (List._∷_ 101 (List._∷_ 114 List.[]))))))))))))))))))))))))))))) (Syntax.ttcons
+              (Syntax.tcons (Syntax.tyInt Syntax.w32) Syntax.tnil) (Syntax.ttcons (Syntax.tcons (Syntax.tyEnum (List._∷_ 114 (List._∷_ 101 (List._∷_ 102 (List._∷_ 117 (List._∷_ 115
+              (List._∷_ 97 (List._∷_ 108 (List._∷_ 58 (List._∷_ 58 (List._∷_ 82 (List._∷_ 101 (List._∷_ 102 (List._∷_ 117 (List._∷_ 115 (List._∷_ 97 (List._∷_ 108
+              List.[])))))))))))))))) (Syntax.ttcons Syntax.tnil (Syntax.ttcons Syntax.tnil (Syntax.ttcons Syntax.tnil (Syntax.ttcons Syntax.tnil (Syntax.ttcons Syntax.tnil
               (Syntax.ttcons Syntax.tnil (Syntax.ttcons Syntax.tnil (Syntax.ttcons Syntax.tnil (Syntax.ttcons Syntax.tnil (Syntax.ttcons Syntax.tnil (Syntax.ttcons Syntax.tnil
-              (Syntax.ttcons Syntax.tnil (Syntax.ttcons Syntax.tnil (Syntax.ttcons Syntax.tnil (Syntax.ttcons Syntax.tnil Syntax.ttnil))))))))))))) Syntax.tnil) Syntax.ttnil))),
+              (Syntax.ttcons Syntax.tnil Syntax.ttnil))))))))))))) Syntax.tnil) Syntax.ttnil))),
+        ) (List._∷_ (1, Rows.whole (Declared'.row Stream.the-type)) (List._∷_ (
+          2,
+          Rows.sslice Of.R (Syntax.tyRef (Syntax.named 0) Syntax.imm Of.tyBy) 0,
+        ) (List._∷_ (3, Rows.sc-here (Row.sInt Syntax.w64)) (List._∷_ (
+          4,
+          Reshare.mslice-owedS
+              (Array.Array (Referent.rtF (Referent.fInt Syntax.w32)) 3) (Syntax.tyRef (Syntax.named 1) Syntax.mut (Syntax.tyArray (Syntax.tyInt Syntax.w32) 3)) 1 3 (Row.lease (κs .1
+              .0) (qs .1 .0)),
+        ) (List._∷_ (5, Rows.whole (Declared.row Question.the-type)) (List._∷_ (6, Rows.any-gone Syntax.tyUnit) (List._∷_ (
+          7,
+          Rows.any-gone (Syntax.tyRef
+              Syntax.erased Syntax.mut (Syntax.tyArray (Syntax.tyInt Syntax.w32) 3)),
+        ) (List._∷_ (
+          8,
+          Rows.any-gone (Syntax.tyStruct (List._∷_ 38 (List._∷_ 91 (List._∷_ 93
+              List.[]))) (Syntax.tcons (Syntax.tyRef Syntax.erased Syntax.mut (Syntax.tyArray (Syntax.tyInt Syntax.w32) 3)) (Syntax.tcons (Syntax.tyInt Syntax.w64) Syntax.tnil))),
         )
-            (List._∷_ (1, Rows.whole (Declared'.row Stream.the-type)) (List._∷_ (2, Rows.sslice Of.R (Syntax.tyRef (Syntax.named 0) Syntax.imm Of.tyBy) 0) (List._∷_ (
-              3,
-              Rows.sc-here (Row.sInt Syntax.w64),
-            ) (List._∷_ (
-              4,
-              Reshare.mslice-owedS (Array.Array (Referent.rtF (Referent.fInt Syntax.w32)) 3) (Syntax.tyRef (Syntax.named 1)
-                  Syntax.mut (Syntax.tyArray (Syntax.tyInt Syntax.w32) 3)) 1 3 (Row.lease (κs .1 .0) (qs .1 .0)),
-            ) (List._∷_ (5, Rows.whole (Declared.row Question.the-type)) (List._∷_ (
-              6,
-              Rows.any-gone Syntax.tyUnit,
-            ) (List._∷_ (7, Rows.any-gone (Syntax.tyRef Syntax.erased Syntax.mut (Syntax.tyArray (Syntax.tyInt Syntax.w32) 3))) (List._∷_ (
-              8,
-              Rows.any-gone (Syntax.tyStruct (List._∷_ 38 (List._∷_ 91 (List._∷_ 93 List.[]))) (Syntax.tcons (Syntax.tyRef Syntax.erased Syntax.mut (Syntax.tyArray (Syntax.tyInt
-                  Syntax.w32) 3)) (Syntax.tcons (Syntax.tyInt Syntax.w64) Syntax.tnil))),
-            ) (List._∷_ (
+            (List._∷_ (
               9,
-              Relend.ssptr (Array.Array (Referent.rtF (Referent.fInt Syntax.w32)) 3)
-                  (Syntax.tyRef Syntax.erased Syntax.imm (Syntax.tyArray (Syntax.tyInt Syntax.w32) 3)) 3,
+              Relend.ssptr (Array.Array (Referent.rtF (Referent.fInt Syntax.w32)) 3) (Syntax.tyRef Syntax.erased Syntax.imm (Syntax.tyArray (Syntax.tyInt Syntax.w32)
+                  3)) 3,
             ) (List._∷_ (
               10,
-              Rows.any-gone (Syntax.tyStruct (List._∷_ 38 (List._∷_ 91
-                  (List._∷_ 93 List.[]))) (Syntax.tcons (Syntax.tyRef Syntax.erased Syntax.imm (Syntax.tyArray (Syntax.tyInt Syntax.w32) 3)) (Syntax.tcons (Syntax.tyInt Syntax.w64)
-                  Syntax.tnil))),
+              Rows.any-gone (Syntax.tyStruct (List._∷_ 38 (List._∷_ 91 (List._∷_ 93 List.[]))) (Syntax.tcons (Syntax.tyRef Syntax.erased Syntax.imm
+                  (Syntax.tyArray (Syntax.tyInt Syntax.w32) 3)) (Syntax.tcons (Syntax.tyInt Syntax.w64) Syntax.tnil))),
             ) List.[]))))))))))
 
         abbrev g7 : List.List Row.Entry
         g7 = List._∷_ (
           0,
           Rows.any-gone (Syntax.tyEnum (List._∷_ 103 (List._∷_ 114 (List._∷_ 101 (List._∷_ 101 (List._∷_ 110 (List._∷_ 119 (List._∷_ 97 (List._∷_ 108 (List._∷_ 100
-              (List._∷_ 95 (List._∷_ 107 (List._∷_ 104 (List._∷_ 97 (List._∷_ 110 (List._∷_ 110 (List._∷_ 97 (List._∷_ 58 (List._∷_ 58 (List._∷_ 65 (List._∷_ 110 (List._∷_ 115
-              (List._∷_ 119 (List._∷_ 101 (List._∷_ 114 List.[])))))))))))))))))))))))) (Syntax.ttcons (Syntax.tcons (Syntax.tyInt Syntax.w32) Syntax.tnil) (Syntax.ttcons
-              (Syntax.tcons (Syntax.tyEnum (List._∷_ 114 (List._∷_ 101 (List._∷_ 102 (List._∷_ 117 (List._∷_ 115 (List._∷_ 97 (List._∷_ 108 (List._∷_ 58 (List._∷_ 58 (List._∷_ 82
-              (List._∷_ 101 (List._∷_ 102 (List._∷_ 117 (List._∷_ 115 (List._∷_ 97 (List._∷_ 108 List.[])))))))))))))))) (Syntax.ttcons Syntax.tnil (Syntax.ttcons Syntax.tnil
+              (List._∷_ 95 (List._∷_ 107 (List._∷_ 104 (List._∷_ 97 (List._∷_ 110 (List._∷_ 110 (List._∷_ 97 (List._∷_ 95 (List._∷_ 116 (List._∷_ 111 (List._∷_ 108 (List._∷_ 100
+              (List._∷_ 58 (List._∷_ 58 (List._∷_ 65 (List._∷_ 110 (List._∷_ 115 (List._∷_ 119 (List._∷_ 101 (List._∷_ 114 List.[]))))))))))))))))))))))))))))) (Syntax.ttcons
+              (Syntax.tcons (Syntax.tyInt Syntax.w32) Syntax.tnil) (Syntax.ttcons (Syntax.tcons (Syntax.tyEnum (List._∷_ 114 (List._∷_ 101 (List._∷_ 102 (List._∷_ 117 (List._∷_ 115
+              (List._∷_ 97 (List._∷_ 108 (List._∷_ 58 (List._∷_ 58 (List._∷_ 82 (List._∷_ 101 (List._∷_ 102 (List._∷_ 117 (List._∷_ 115 (List._∷_ 97 (List._∷_ 108
+              List.[])))))))))))))))) (Syntax.ttcons Syntax.tnil (Syntax.ttcons Syntax.tnil (Syntax.ttcons Syntax.tnil (Syntax.ttcons Syntax.tnil (Syntax.ttcons Syntax.tnil
               (Syntax.ttcons Syntax.tnil (Syntax.ttcons Syntax.tnil (Syntax.ttcons Syntax.tnil (Syntax.ttcons Syntax.tnil (Syntax.ttcons Syntax.tnil (Syntax.ttcons Syntax.tnil
-              (Syntax.ttcons Syntax.tnil (Syntax.ttcons Syntax.tnil (Syntax.ttcons Syntax.tnil (Syntax.ttcons Syntax.tnil Syntax.ttnil))))))))))))) Syntax.tnil) Syntax.ttnil))),
+              (Syntax.ttcons Syntax.tnil Syntax.ttnil))))))))))))) Syntax.tnil) Syntax.ttnil))),
+        ) (List._∷_ (1, Rows.whole (Declared'.row Stream.the-type)) (List._∷_ (
+          2,
+          Rows.sslice Of.R (Syntax.tyRef (Syntax.named 0) Syntax.imm Of.tyBy) 0,
+        ) (List._∷_ (3, Rows.sc-here (Row.sInt Syntax.w64)) (List._∷_ (
+          4,
+          Reshare.mslice-owedS
+              (Array.Array (Referent.rtF (Referent.fInt Syntax.w32)) 3) (Syntax.tyRef (Syntax.named 1) Syntax.mut (Syntax.tyArray (Syntax.tyInt Syntax.w32) 3)) 1 3 (Row.lease (κs .1
+              .0) (qs .1 .0)),
+        ) (List._∷_ (5, Rows.whole (Declared.row Question.the-type)) (List._∷_ (6, Rows.any-gone Syntax.tyUnit) (List._∷_ (
+          7,
+          Rows.any-gone (Syntax.tyRef
+              Syntax.erased Syntax.mut (Syntax.tyArray (Syntax.tyInt Syntax.w32) 3)),
+        ) (List._∷_ (
+          8,
+          Rows.any-gone (Syntax.tyStruct (List._∷_ 38 (List._∷_ 91 (List._∷_ 93
+              List.[]))) (Syntax.tcons (Syntax.tyRef Syntax.erased Syntax.mut (Syntax.tyArray (Syntax.tyInt Syntax.w32) 3)) (Syntax.tcons (Syntax.tyInt Syntax.w64) Syntax.tnil))),
         )
-            (List._∷_ (1, Rows.whole (Declared'.row Stream.the-type)) (List._∷_ (2, Rows.sslice Of.R (Syntax.tyRef (Syntax.named 0) Syntax.imm Of.tyBy) 0) (List._∷_ (
-              3,
-              Rows.sc-here (Row.sInt Syntax.w64),
-            ) (List._∷_ (
-              4,
-              Reshare.mslice-owedS (Array.Array (Referent.rtF (Referent.fInt Syntax.w32)) 3) (Syntax.tyRef (Syntax.named 1)
-                  Syntax.mut (Syntax.tyArray (Syntax.tyInt Syntax.w32) 3)) 1 3 (Row.lease (κs .1 .0) (qs .1 .0)),
-            ) (List._∷_ (5, Rows.whole (Declared.row Question.the-type)) (List._∷_ (
-              6,
-              Rows.any-gone Syntax.tyUnit,
-            ) (List._∷_ (7, Rows.any-gone (Syntax.tyRef Syntax.erased Syntax.mut (Syntax.tyArray (Syntax.tyInt Syntax.w32) 3))) (List._∷_ (
-              8,
-              Rows.any-gone (Syntax.tyStruct (List._∷_ 38 (List._∷_ 91 (List._∷_ 93 List.[]))) (Syntax.tcons (Syntax.tyRef Syntax.erased Syntax.mut (Syntax.tyArray (Syntax.tyInt
-                  Syntax.w32) 3)) (Syntax.tcons (Syntax.tyInt Syntax.w64) Syntax.tnil))),
-            ) (List._∷_ (
-              9,
-              Rows.any-gone (Syntax.tyRef Syntax.erased Syntax.imm (Syntax.tyArray
-                  (Syntax.tyInt Syntax.w32) 3)),
-            ) (List._∷_ (
+            (List._∷_ (9, Rows.any-gone (Syntax.tyRef Syntax.erased Syntax.imm (Syntax.tyArray (Syntax.tyInt Syntax.w32) 3))) (List._∷_ (
               10,
-              Rows.sslice (Array.Array (Referent.rtF (Referent.fInt Syntax.w32)) 3) (Syntax.tyRef Syntax.erased Syntax.imm
-                  (Syntax.tyArray (Syntax.tyInt Syntax.w32) 3)) 3,
+              Rows.sslice (Array.Array
+                  (Referent.rtF (Referent.fInt Syntax.w32)) 3) (Syntax.tyRef Syntax.erased Syntax.imm (Syntax.tyArray (Syntax.tyInt Syntax.w32) 3)) 3,
             ) List.[]))))))))))
 
         abbrev g8 : List.List Row.Entry
@@ -1409,7 +1402,7 @@ module _ (claims· : Claims) where
               (Call.sub-id 𝓤 H A W (G12 .slots)) (
                 (
                   Yields.yields-copy 𝓤 H A W (λ ρ. Unit) (Declared'.row Stream.the-type) Path'.refl (Copies.cStruct Stream.the-type
-                      Laws''.the-laws Laws''.the-copy .copy 𝓤 H A W) (Rows.whole (Declared'.row Stream.the-type)) (λ x. x) (λ x. x) (λ ρ told. Local.mem-whole 𝓤 H A W (Declared'.row
+                      Laws'.the-laws Laws'.the-copy .copy 𝓤 H A W) (Rows.whole (Declared'.row Stream.the-type)) (λ x. x) (λ x. x) (λ ρ told. Local.mem-whole 𝓤 H A W (Declared'.row
                       Stream.the-type) ρ) λ ρ told. Local.whole-mem 𝓤 H A W (Declared'.row Stream.the-type) ρ,
                   Path'.refl,
                 ),
@@ -1428,7 +1421,7 @@ module _ (claims· : Claims) where
                     (
                       (
                         Yields.yields-copy 𝓤 H A W (λ ρ. Unit) (Declared.row Question.the-type) Path'.refl (Copies.cEnum Question.the-type
-                            Laws'.the-laws Laws'.the-copy .copy 𝓤 H A W) (Rows.whole (Declared.row Question.the-type)) (λ x. x) (λ x. x) (λ ρ told. Local.mem-whole 𝓤 H A W (Declared.row
+                            Laws.the-laws Laws.the-copy .copy 𝓤 H A W) (Rows.whole (Declared.row Question.the-type)) (λ x. x) (λ x. x) (λ ρ told. Local.mem-whole 𝓤 H A W (Declared.row
                             Question.the-type) ρ) λ ρ told. Local.whole-mem 𝓤 H A W (Declared.row Question.the-type) ρ,
                         Path'.refl,
                       ),
@@ -1438,12 +1431,13 @@ module _ (claims· : Claims) where
                 ),
               ) (Reads.room-gone 𝓤 H A (Syntax.tyEnum
               (List._∷_ 103 (List._∷_ 114 (List._∷_ 101 (List._∷_ 101 (List._∷_ 110 (List._∷_ 119 (List._∷_ 97 (List._∷_ 108 (List._∷_ 100 (List._∷_ 95 (List._∷_ 107 (List._∷_ 104
-              (List._∷_ 97 (List._∷_ 110 (List._∷_ 110 (List._∷_ 97 (List._∷_ 58 (List._∷_ 58 (List._∷_ 65 (List._∷_ 110 (List._∷_ 115 (List._∷_ 119 (List._∷_ 101 (List._∷_ 114
-              List.[])))))))))))))))))))))))) (Syntax.ttcons (Syntax.tcons (Syntax.tyInt Syntax.w32) Syntax.tnil) (Syntax.ttcons (Syntax.tcons (Syntax.tyEnum (List._∷_ 114
-              (List._∷_ 101 (List._∷_ 102 (List._∷_ 117 (List._∷_ 115 (List._∷_ 97 (List._∷_ 108 (List._∷_ 58 (List._∷_ 58 (List._∷_ 82 (List._∷_ 101 (List._∷_ 102 (List._∷_ 117
-              (List._∷_ 115 (List._∷_ 97 (List._∷_ 108 List.[])))))))))))))))) (Syntax.ttcons Syntax.tnil (Syntax.ttcons Syntax.tnil (Syntax.ttcons Syntax.tnil (Syntax.ttcons
-              Syntax.tnil (Syntax.ttcons Syntax.tnil (Syntax.ttcons Syntax.tnil (Syntax.ttcons Syntax.tnil (Syntax.ttcons Syntax.tnil (Syntax.ttcons Syntax.tnil (Syntax.ttcons
-              Syntax.tnil (Syntax.ttcons Syntax.tnil (Syntax.ttcons Syntax.tnil Syntax.ttnil))))))))))))) Syntax.tnil) Syntax.ttnil)))) (tt, tt) Path'.refl) d7
+              (List._∷_ 97 (List._∷_ 110 (List._∷_ 110 (List._∷_ 97 (List._∷_ 95 (List._∷_ 116 (List._∷_ 111 (List._∷_ 108 (List._∷_ 100 (List._∷_ 58 (List._∷_ 58 (List._∷_ 65
+              (List._∷_ 110 (List._∷_ 115 (List._∷_ 119 (List._∷_ 101 (List._∷_ 114 List.[]))))))))))))))))))))))))))))) (Syntax.ttcons (Syntax.tcons (Syntax.tyInt Syntax.w32)
+              Syntax.tnil) (Syntax.ttcons (Syntax.tcons (Syntax.tyEnum (List._∷_ 114 (List._∷_ 101 (List._∷_ 102 (List._∷_ 117 (List._∷_ 115 (List._∷_ 97 (List._∷_ 108 (List._∷_ 58
+              (List._∷_ 58 (List._∷_ 82 (List._∷_ 101 (List._∷_ 102 (List._∷_ 117 (List._∷_ 115 (List._∷_ 97 (List._∷_ 108 List.[])))))))))))))))) (Syntax.ttcons Syntax.tnil
+              (Syntax.ttcons Syntax.tnil (Syntax.ttcons Syntax.tnil (Syntax.ttcons Syntax.tnil (Syntax.ttcons Syntax.tnil (Syntax.ttcons Syntax.tnil (Syntax.ttcons Syntax.tnil
+              (Syntax.ttcons Syntax.tnil (Syntax.ttcons Syntax.tnil (Syntax.ttcons Syntax.tnil (Syntax.ttcons Syntax.tnil (Syntax.ttcons Syntax.tnil Syntax.ttnil)))))))))))))
+              Syntax.tnil) Syntax.ttnil)))) (tt, tt) Path'.refl) d7
 
           d9 : Typed.Typed 𝓤 H A 𝓣 E G11 b8 Δ0 at9
           d9 = Typed.s-seq 𝓤 H A W 𝓣 E G11 G12 b4 b7 Δ0 (Typed.ask s10) at8 (Relend.t-sl-aggregate 𝓤 H A W E (Array.Array (Referent.rtF (Referent.fInt Syntax.w32)) 3) 𝓣
@@ -1552,19 +1546,18 @@ module _ (claims· : Claims) where
           pub stream : Kinds.Den {n = 2} κs (Value.pVal record {
             ty = Declared'.row Stream.the-type;
             one = Path'.refl;
-            val = Laws'4.val Stream.the-type Laws''.the-laws;
+            val = Laws'4.val Stream.the-type Laws'.the-laws;
             tells =
-                Laws'4.tells Stream.the-type Laws''.the-laws;
-            still = Laws'4.still Stream.the-type Laws''.the-copy Exit.yes;
+                Laws'4.tells Stream.the-type Laws'.the-laws;
+            still = Laws'4.still Stream.the-type Laws'.the-copy Exit.yes;
             row = Rows.whole (Declared'.row Stream.the-type);
-            rd = λ
-                x. x;
+            rd = λ x.
+                x;
             mk = λ x. x;
           } λ M 𝓤 H A W. record {
-            copies = Laws'4.copy Stream.the-type Laws''.the-copy 𝓤 H A W;
-            lawful = Laws'4.lawful Stream.the-type Laws''.the-laws 𝓤 H A
-                W;
-            makes = Laws'4.makes Stream.the-type Laws''.the-plain 𝓤 H A;
+            copies = Laws'4.copy Stream.the-type Laws'.the-copy 𝓤 H A W;
+            lawful = Laws'4.lawful Stream.the-type Laws'.the-laws 𝓤 H A W;
+            makes = Laws'4.makes Stream.the-type Laws'.the-plain 𝓤 H A;
             in-mem = Local.mem-whole 𝓤 H A W (Declared'.row Stream.the-type);
             of-mem = Local.whole-mem 𝓤 H A W
                 (Declared'.row Stream.the-type);
@@ -1575,22 +1568,22 @@ module _ (claims· : Claims) where
           pub question : Kinds.Den {n = 2} κs (Value.pVal record {
             ty = Declared.row Question.the-type;
             one = Path'.refl;
-            val = Laws'3.val Question.the-type Laws'.the-laws;
+            val = Laws'3.val Question.the-type Laws.the-laws;
             tells =
-                Laws'3.tells Question.the-type Laws'.the-laws;
-            still = Laws'3.still Question.the-type Laws'.the-copy Exit.yes;
+                Laws'3.tells Question.the-type Laws.the-laws;
+            still = Laws'3.still Question.the-type Laws.the-copy Exit.yes;
             row = Rows.whole (Declared.row Question.the-type);
-            rd =
-                λ x. x;
+            rd = λ
+                x. x;
             mk = λ x. x;
           } λ M 𝓤 H A W. record {
-            copies = Laws'3.copy Question.the-type Laws'.the-copy 𝓤 H A W;
-            lawful = Laws'3.lawful Question.the-type Laws'.the-laws 𝓤
-                H A W tt;
-            makes = Laws'3.makes Question.the-type Laws'.the-plain 𝓤 H A;
+            copies = Laws'3.copy Question.the-type Laws.the-copy 𝓤 H A W;
+            lawful = Laws'3.lawful Question.the-type Laws.the-laws 𝓤 H A
+                W tt;
+            makes = Laws'3.makes Question.the-type Laws.the-plain 𝓤 H A;
             in-mem = Local.mem-whole 𝓤 H A W (Declared.row Question.the-type);
-            of-mem = Local.whole-mem 𝓤
-                H A W (Declared.row Question.the-type);
+            of-mem = Local.whole-mem 𝓤 H A W
+                (Declared.row Question.the-type);
           })
 
         abbrev pub dens : (a : Args) → Kinds.Dens κs ps

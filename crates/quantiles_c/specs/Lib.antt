@@ -1,6 +1,0 @@
-pub mod CkmsPosts
-pub mod HistogramPosts
-pub mod Laws
-pub mod Promises
-pub mod StorePosts
-pub mod StreamPosts
