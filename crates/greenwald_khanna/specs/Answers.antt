@@ -1,4 +1,4 @@
--- What an insert and a quantile answer, and the lent list that it leaves, on every input. The tests stand in the order of the refusals.
+-- What an insert and a quantile answer, and the lent list that an insert leaves, on every input. The tests stand in the order of the refusals.
 -- Assumes nothing: these are definitions.
 use Prim.Native.Nat.{ℕ, suc}
 use mathlib.Core.Bool.{cond, not}
