@@ -1,4 +1,6 @@
 // The CKMS: a store of block size 2,048, with an insert counter, the last value and the running mean.
+#![tactic(auto)]
+
 ghost use Rattle.std.specs.Prelude.{◌≡◌};
 ghost use Rattle.entries.specs.Entry.{entries_of};
 ghost use Rattle.ckms.specs.Answers.{queried};
@@ -19,7 +21,7 @@ pub use ckms_store::Answer;
 pub use ckms_told::{Average, Counted, ErrorBound, LastIn, cma, count, error_bound, last};
 
 // What an insert answers.
-#[derive(Drop)]
+#[derive(Clone, Copy)]
 pub enum Inserted {
     Taken(CKMS),
     Refused(Refusal),

@@ -1,4 +1,6 @@
 // A CKMS written as words, and what the calls on one answer: the refusal's number or 0, and what the core answered.
+#![tactic(auto)]
+
 ghost use Rattle.std.specs.Prelude.{◌≡◌};
 ghost use Rattle.ckms_answer_words.specs.Promises.{Promises};
 ghost use Rattle.ckms_answer_words.specs.CkmsAnswers.{last_flag, last_word, mean_flag, mean_word, words_of, flat_opened, flat_inserted, flat_counted, flat_last, flat_average, flat_error};
@@ -9,7 +11,7 @@ use words::{Number, Ratio, refused};
 
 // A CKMS, or the refusal's number.
 #[repr(C)]
-#[derive(Drop)]
+#[derive(Clone, Copy)]
 pub struct CkmsAnswer {
     pub refusal: u32,
     pub ckms: CkmsWords,
@@ -17,7 +19,7 @@ pub struct CkmsAnswer {
 
 // The last value, if there is one.
 #[repr(C)]
-#[derive(Drop)]
+#[derive(Clone, Copy)]
 pub struct LastAnswer {
     pub refusal: u32,
     pub has_last: u32,
@@ -26,7 +28,7 @@ pub struct LastAnswer {
 
 // The mean, if there is one.
 #[repr(C)]
-#[derive(Drop)]
+#[derive(Clone, Copy)]
 pub struct MeanAnswer {
     pub refusal: u32,
     pub has_mean: u32,
@@ -35,7 +37,7 @@ pub struct MeanAnswer {
 
 // The error as opened.
 #[repr(C)]
-#[derive(Drop)]
+#[derive(Clone, Copy)]
 pub struct ErrorAnswer {
     pub refusal: u32,
     pub error: Ratio,

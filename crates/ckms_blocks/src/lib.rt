@@ -1,4 +1,6 @@
 // The CKMS store's work on block lengths at an insert: where a new value goes, and how its block grows.
+#![tactic(auto)]
+
 ghost use Rattle.std.specs.Prelude.{◌-◌, ◌≤◌, ◌<◌, length};
 ghost use Rattle.entries.specs.Entry.{entries_of};
 ghost use Rattle.ckms_theory.specs.Seek.{InBlocks, Sought, Grown};
@@ -7,7 +9,7 @@ ghost use Rattle.ckms_blocks.specs.Skip.{Skipped};
 use ckms_theory::{Spot, place};
 
 // A block, the place where it starts, and the g-sums of the blocks moved into on the way.
-#[derive(Drop)]
+#[derive(Clone, Copy)]
 pub struct Start {
     pub block: usize,
     pub start: usize,

@@ -1,5 +1,7 @@
 // The boundary to C and Rust: the calls on a CKMS as exported functions. Lists are lent in place, states are structs of plain words by value,
 // and an answer is a struct of numbers: the refusal's number or 0, and what the core answered. Every contract hands on the core's.
+#![tactic(auto)]
+
 ghost use Rattle.std.specs.Prelude.{◌≡◌};
 ghost use Rattle.entries.specs.Entry.{entries_of};
 ghost use Rattle.ckms_told.specs.Answers.{count_of, last_of, cma_of, error_of};

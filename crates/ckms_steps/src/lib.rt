@@ -1,4 +1,6 @@
 // The CKMS's state, its opening, and the steps of its calls: the test of every call but opening, and an insert once its tests are passed.
+#![tactic(auto)]
+
 ghost use Rattle.std.specs.Prelude.{◌≡◌};
 ghost use Rattle.entries.specs.Entry.{entries_of};
 ghost use Rattle.ckms_steps.specs.Opening.{OpenPost};
@@ -13,21 +15,21 @@ mod record;
 mod steps;
 
 // The last value taken, or nothing while empty.
-#[derive(Drop)]
+#[derive(Clone, Copy)]
 pub enum Last {
     Nothing,
     Value(u32),
 }
 
 // The cumulative moving average, or nothing while empty.
-#[derive(Drop)]
+#[derive(Clone, Copy)]
 pub enum Cma {
     Nothing,
     Value(Mean),
 }
 
 // A CKMS's own words: those of the store within, the insert counter, the last value and the mean.
-#[derive(Drop)]
+#[derive(Clone, Copy)]
 pub struct CKMS {
     pub error: Fraction,
     pub n: u32,
@@ -39,7 +41,7 @@ pub struct CKMS {
 }
 
 // What opening answers.
-#[derive(Drop)]
+#[derive(Clone, Copy)]
 pub enum Opened {
     Open(CKMS),
     Refused(Refusal),

@@ -1,5 +1,7 @@
 // The CKMS store over a lent list of rows [v, g, delta] and a lent list of as many block lengths, refusals included. Nothing in a state is
 // trusted: every call tests the lengths of the lent lists, then whether state and lists are sound.
+#![tactic(auto)]
+
 ghost use Rattle.std.specs.Prelude.{◌≡◌};
 ghost use Rattle.entries.specs.Entry.{entries_of};
 ghost use Rattle.ckms_store.specs.Answers.{len_of, empty_of, queried};
@@ -15,35 +17,35 @@ use refusal::Refusal;
 pub use ckms_store_steps::{Opened, Store};
 
 // What an insert answers.
-#[derive(Drop)]
+#[derive(Clone, Copy)]
 pub enum Inserted {
     Taken(Store),
     Refused(Refusal),
 }
 
 // What compressing answers.
-#[derive(Drop)]
+#[derive(Clone, Copy)]
 pub enum Compressed {
     Done(Store),
     Refused(Refusal),
 }
 
 // How many entries are held.
-#[derive(Drop)]
+#[derive(Clone, Copy)]
 pub enum Length {
     Held(u32),
     Refused(Refusal),
 }
 
 // Whether nothing is held.
-#[derive(Drop)]
+#[derive(Clone, Copy)]
 pub enum IsEmpty {
     Is(bool),
     Refused(Refusal),
 }
 
 // What a query answers: a rank and a value.
-#[derive(Drop)]
+#[derive(Clone, Copy)]
 pub enum Answer {
     Given(Ranked),
     Refused(Refusal),

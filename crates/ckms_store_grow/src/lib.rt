@@ -1,4 +1,6 @@
 // An insert into the store within a CKMS, once its tests are passed: one observation more and, on schedule, a compression behind it.
+#![tactic(auto)]
+
 ghost use Rattle.std.specs.Prelude.{◌<◌, length};
 ghost use Rattle.entries.specs.Entry.{entries_of};
 ghost use Rattle.ckms_store_steps.specs.Limits.{observations};

@@ -1,4 +1,6 @@
 // What a query does once its tests are passed.
+#![tactic(auto)]
+
 ghost use Rattle.std.specs.Prelude.{◌≡◌, take};
 ghost use Rattle.entries.specs.Entry.{entries_of};
 ghost use Rattle.ckms_theory.specs.Walk.{look_up};

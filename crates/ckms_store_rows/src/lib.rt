@@ -1,4 +1,6 @@
 // The parts of an insert and of a compression that need no state: on the rows and the block lengths in use, which are the first ones lent.
+#![tactic(auto)]
+
 ghost use Rattle.std.specs.Prelude.{◌≡◌, true, ◌≤◌, ◌<◌, length, take};
 ghost use Rattle.fraction.specs.Allowed.{is_error};
 ghost use Rattle.entries.specs.Entry.{entries_of};

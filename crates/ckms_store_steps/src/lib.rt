@@ -1,4 +1,6 @@
 // The store's state, its limits and its opening, and the tests of every call.
+#![tactic(auto)]
+
 ghost use Rattle.std.specs.Prelude.{◌≡◌, ◌≤◌, length};
 ghost use Rattle.entries.specs.Entry.{entries_of};
 ghost use Rattle.ckms_store_steps.specs.Answers.{checked};
@@ -12,7 +14,7 @@ use fraction::Fraction;
 use refusal::Refusal;
 
 // A store's own words: its error, the observations taken, the entries held, the block size and the blocks in use.
-#[derive(Drop)]
+#[derive(Clone, Copy)]
 pub struct Store {
     pub error: Fraction,
     pub n: u32,
@@ -22,14 +24,14 @@ pub struct Store {
 }
 
 // What opening answers.
-#[derive(Drop)]
+#[derive(Clone, Copy)]
 pub enum Opened {
     Open(Store),
     Refused(Refusal),
 }
 
 // What every call but opening tests first.
-#[derive(Drop)]
+#[derive(Clone, Copy)]
 pub enum Checked {
     Sound,
     Refused(Refusal),

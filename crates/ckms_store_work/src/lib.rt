@@ -1,4 +1,6 @@
 // What an insert and a compression do once their tests are passed.
+#![tactic(auto)]
+
 ghost use Rattle.std.specs.Prelude.{◌<◌, length};
 ghost use Rattle.entries.specs.Entry.{entries_of};
 ghost use Rattle.ckms_store_steps.specs.Limits.{observations};

@@ -1,10 +1,12 @@
 // The definitions of the CKMS store's work on entries and block lengths are in specs/, and small readings of them in proofs/. Here stand the
 // structs that the definitions name, a conversion that their crates share, and the function that ties the readings to code.
+#![tactic(auto)]
+
 ghost use Rattle.std.specs.Prelude.{◌≡◌, ◌<◌, ◌^◌};
 ghost use Rattle.ckms_theory.specs.Readings.{Readings};
 
 // A block, a place and r.
-#[derive(Drop)]
+#[derive(Clone, Copy)]
 pub struct Spot {
     pub block: usize,
     pub place: usize,
@@ -12,7 +14,7 @@ pub struct Spot {
 }
 
 // A rank, and the value that is answered with it.
-#[derive(Drop)]
+#[derive(Clone, Copy)]
 pub struct Ranked {
     pub rank: u32,
     pub value: u32,

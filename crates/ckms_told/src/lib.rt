@@ -1,5 +1,7 @@
 // What a CKMS tells of itself: how many observations were accepted, the last value, the running mean, and the error as opened.
 // Refused: SLOTS, DAMAGED. `ckms` passes the calls on.
+#![tactic(auto)]
+
 ghost use Rattle.std.specs.Prelude.{◌≡◌};
 ghost use Rattle.entries.specs.Entry.{entries_of};
 ghost use Rattle.ckms_told.specs.Answers.{count_of, last_of, cma_of, error_of};
@@ -10,28 +12,28 @@ use fraction::Fraction;
 use refusal::Refusal;
 
 // How many observations were accepted.
-#[derive(Drop)]
+#[derive(Clone, Copy)]
 pub enum Counted {
     Count(u32),
     Refused(Refusal),
 }
 
 // The last value accepted.
-#[derive(Drop)]
+#[derive(Clone, Copy)]
 pub enum LastIn {
     Given(Last),
     Refused(Refusal),
 }
 
 // The running mean.
-#[derive(Drop)]
+#[derive(Clone, Copy)]
 pub enum Average {
     Given(Cma),
     Refused(Refusal),
 }
 
 // The error as opened.
-#[derive(Drop)]
+#[derive(Clone, Copy)]
 pub enum ErrorBound {
     Given(Fraction),
     Refused(Refusal),

@@ -1,5 +1,7 @@
 // A CKMS's state. Words that fit none are read as a state that is never sound, whatever is lent: the core refuses it, after SLOTS, as DAMAGED.
 // The mean is an f64 here: a NaN is then a value which the core can refuse.
+#![tactic(auto)]
+
 ghost use Rattle.std.specs.Prelude.{◌≡◌};
 ghost use Rattle.ckms_words.specs.Promises.{Promises};
 ghost use Rattle.ckms_words.specs.Ckmses.{plus_zero, Narrow, narrow, fits, misfit, last_beside, cma_beside, narrowed, ckms_of};
@@ -11,7 +13,7 @@ use words::flag_fits;
 
 // A CKMS's state: a flag says whether there is a last value, and another whether there is a mean.
 #[repr(C)]
-#[derive(Drop)]
+#[derive(Clone, Copy)]
 pub struct CkmsWords {
     pub num: u64,
     pub den: u64,

@@ -1,10 +1,12 @@
 // Entries of a summary, and the work on lent lists of them that every module shares.
+#![tactic(auto)]
+
 ghost use Rattle.std.specs.Prelude.{◌≡◌, ◌≤◌, length};
 ghost use Rattle.entries.specs.Entry.{row_of, entry_of, entries_of, sum_g};
 ghost use Rattle.entries.specs.Promises.{Promises};
 
 // v is an observation; g says how many ranks lie between the entry before and this one; delta how unsure its rank is.
-#[derive(Drop)]
+#[derive(Clone, Copy)]
 pub struct Entry {
     pub v: u32,
     pub g: u32,

@@ -1,10 +1,12 @@
 // Fractions of whole numbers, and which of them are allowed.
 // Every function takes any words: what no rule speaks of is answered by its definition in specs/, and nothing traps.
+#![tactic(auto)]
+
 ghost use Rattle.std.specs.Prelude.{◌≡◌, ◌<◌, ◌^◌};
 ghost use Rattle.fraction.specs.Allowed.{is_epsilon, is_error, is_phi, denominators};
 
 // A fraction by value: numerator over denominator, lowest terms not required.
-#[derive(Drop)]
+#[derive(Clone, Copy)]
 pub struct Fraction {
     pub num: u32,
     pub den: u32,

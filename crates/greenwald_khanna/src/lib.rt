@@ -1,5 +1,7 @@
 // The Greenwald-Khanna stream over a lent list of rows [v, g, delta], refusals included. Nothing in a state is trusted: every call tests the
 // lent list's length, then whether state and list are sound.
+#![tactic(auto)]
+
 ghost use Rattle.entries.specs.Entry.{entries_of};
 ghost use Rattle.greenwald_khanna.specs.Posts.{InsertPost, QuantilePost};
 ghost use Rattle.greenwald_khanna.specs.Promises.{Promises};
@@ -14,7 +16,7 @@ pub use greenwald_khanna_steps::{Opened, Stream};
 pub use greenwald_khanna_told::{Answer, n, p, s};
 
 // What an insert answers: the stream after it, or why not.
-#[derive(Drop)]
+#[derive(Clone, Copy)]
 pub enum Inserted {
     Taken(Stream),
     Refused(Refusal),

@@ -1,6 +1,8 @@
 // The stream over a lent list of entry structs: the core's calls, with the core's contracts. Each is thin: the core works on the slots in reach
 // alone, by way of local rows (`greenwald_khanna_through`). Only `open` needs no rows. The borrow checker covers no function that lends such a
 // list: its part of these proofs is ported (tools/port).
+#![tactic(auto)]
+
 ghost use Rattle.std.specs.Prelude.{◌≡◌};
 ghost use Rattle.greenwald_khanna_told.specs.Answers.{told_p, told_n, told_s};
 ghost use Rattle.greenwald_khanna_steps.specs.Opening.{OpenPost};

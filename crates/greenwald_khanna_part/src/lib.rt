@@ -1,5 +1,7 @@
 // The core's calls on the first k rows of a longer slice, and how many rows a call can need.
 // The calls over entry structs work by these. No entry is lent here, so the borrow checker covers them all.
+#![tactic(auto)]
+
 ghost use Rattle.std.specs.Prelude.{◌≡◌, ◌≤◌, length, take};
 ghost use Rattle.entries.specs.Entry.{entries_of};
 ghost use Rattle.greenwald_khanna.specs.Answers.{inserted, inserted_list};
@@ -10,7 +12,7 @@ use fraction::Fraction;
 use greenwald_khanna::{Answer, Inserted, Stream};
 
 // What a stream can be asked.
-#[derive(Drop)]
+#[derive(Clone, Copy)]
 pub enum Question {
     Quantile(Fraction),
     P,

@@ -1,4 +1,6 @@
 // The compression of the Greenwald-Khanna stream over rows [v, g, delta], equal to its definition over entries.
+#![tactic(auto)]
+
 ghost use Rattle.std.specs.Prelude.{◌≡◌, ◌+◌, ◌≤◌, ◌<◌, ◌^◌, length};
 ghost use Rattle.entries.specs.Entry.{entry_of, entries_of};
 ghost use Rattle.greenwald_khanna_theory.specs.Summary.{mergeable};

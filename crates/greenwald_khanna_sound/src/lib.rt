@@ -1,4 +1,6 @@
 // The test whether rows [v, g, delta] are those of a sound Greenwald-Khanna stream, equal to its definition over entries.
+#![tactic(auto)]
+
 ghost use Rattle.std.specs.Prelude.{◌≡◌, ◌&&◌, ◌≤◌, length};
 ghost use Rattle.entries.specs.Entry.{entries_of};
 ghost use Rattle.greenwald_khanna_theory.specs.Sound.{first_exact, last_exact, sound_entries};

@@ -1,5 +1,7 @@
 // What the Greenwald-Khanna stream is: its state over a lent list of rows [v, g, delta], its limits, its opening,
 // when it is sound, and the steps of its calls.
+#![tactic(auto)]
+
 ghost use Rattle.std.specs.Prelude.{◌≡◌};
 ghost use Rattle.entries.specs.Entry.{entries_of};
 ghost use Rattle.greenwald_khanna_steps.specs.Limits.{slots, observations, denominator};
@@ -11,7 +13,7 @@ use refusal::Refusal;
 mod steps;
 
 // A stream: its error fraction, how many observations it has taken, and how many entries of the lent list it holds.
-#[derive(Drop)]
+#[derive(Clone, Copy)]
 pub struct Stream {
     pub epsilon: Fraction,
     pub n: u32,
@@ -19,7 +21,7 @@ pub struct Stream {
 }
 
 // What opening answers.
-#[derive(Drop)]
+#[derive(Clone, Copy)]
 pub enum Opened {
     Open(Stream),
     Refused(Refusal),

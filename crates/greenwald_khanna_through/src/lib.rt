@@ -1,5 +1,7 @@
 // An insert and a question by way of local rows: the first k slots of the list go out to the rows, the core works on those, and what it leaves
 // goes back. The borrow checker covers no function that lends such a list: its part of these proofs is ported (tools/port).
+#![tactic(auto)]
+
 ghost use Rattle.std.specs.Prelude.{◌≡◌, ◌++◌, ◌≤◌, length, take, drop};
 ghost use Rattle.greenwald_khanna_steps.specs.Limits.{slots};
 ghost use Rattle.greenwald_khanna.specs.Answers.{inserted, inserted_list};

@@ -1,5 +1,7 @@
 // What a stream tells of itself where it is sound: p, how many observations were accepted, how many entries are held.
 // `greenwald_khanna` passes the calls on, and a quantile answers as they do.
+#![tactic(auto)]
+
 ghost use Rattle.std.specs.Prelude.{◌≡◌};
 ghost use Rattle.entries.specs.Entry.{entries_of};
 ghost use Rattle.greenwald_khanna_told.specs.Answers.{told, told_p, told_n, told_s};
@@ -8,7 +10,7 @@ use greenwald_khanna_steps::Stream;
 use refusal::Refusal;
 
 // What a question answers.
-#[derive(Drop)]
+#[derive(Clone, Copy)]
 pub enum Answer {
     Value(u32),
     Refused(Refusal),

@@ -1,4 +1,6 @@
 // The walk of the Greenwald-Khanna stream over rows [v, g, delta], equal to its definition over entries.
+#![tactic(auto)]
+
 ghost use Rattle.std.specs.Prelude.{◌≡◌, ◌≤◌, ◌<◌, length};
 ghost use Rattle.std.proofs.Math.Option.{some};
 ghost use Rattle.entries.specs.Entry.{entries_of};

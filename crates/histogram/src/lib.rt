@@ -1,5 +1,7 @@
 // The histogram: how many observations fell into each of the bins that the caller's bounds cut, and their sum.
 // Bounds and counts are lent; nothing in a state is trusted, so every call tests what it is given.
+#![tactic(auto)]
+
 ghost use Rattle.std.specs.Prelude.{◌≡◌};
 ghost use Rattle.histogram.specs.Answers.{bins_answer, bins_number};
 ghost use Rattle.histogram.specs.Contracts.{InsertPost};
@@ -20,7 +22,7 @@ pub use histogram_steps::{Histogram, Opened, Sum};
 pub use histogram_told::{Counted, Summed, count, sum, total_above, total_below, total_between};
 
 // What an insert answers.
-#[derive(Drop)]
+#[derive(Clone, Copy)]
 pub enum Inserted {
     Taken(Histogram),
     Refused(Refusal),

@@ -1,5 +1,7 @@
 // The boundary to C and Rust: the histogram's calls as exported functions. Lists are lent in place, states are structs of plain words by value,
 // and an answer is a struct of numbers: the refusal's number or 0, and what the core answered. Every contract hands on the core's.
+#![tactic(auto)]
+
 ghost use Rattle.std.specs.Prelude.{◌≡◌};
 ghost use Rattle.histogram_told.specs.Answers.{count_answer, sum_answer, below_answer, above_answer, between_answer};
 ghost use Rattle.histogram_words.specs.Histograms.{histogram_of, bound_of, flat_counted, flat_summed};

@@ -1,5 +1,7 @@
 // What the histogram's calls rest on: its state beside the lent bounds and counts, the limits, and opening.
 // Nothing in a state is trusted: `standing` tests what a call is given.
+#![tactic(auto)]
+
 ghost use Rattle.std.specs.Prelude.{◌≡◌};
 ghost use Rattle.histogram_steps.specs.Bounds.{bounds};
 ghost use Rattle.histogram_steps.specs.Opening.{OpenPost};
@@ -11,28 +13,28 @@ use refusal::Refusal;
 mod steps;
 
 // The sum of the observations: nothing exactly while there are none.
-#[derive(Drop)]
+#[derive(Clone, Copy)]
 pub enum Sum {
     Nothing,
     Some(u64),
 }
 
 // What a histogram is beside its bounds and counts.
-#[derive(Drop)]
+#[derive(Clone, Copy)]
 pub struct Histogram {
     pub count: u32,
     pub sum: Sum,
 }
 
 // What opening answers.
-#[derive(Drop)]
+#[derive(Clone, Copy)]
 pub enum Opened {
     Open(Histogram),
     Refused(Refusal),
 }
 
 // Whether a call can be answered.
-#[derive(Drop)]
+#[derive(Clone, Copy)]
 pub enum Standing {
     Fine,
     Refused(Refusal),

@@ -1,4 +1,6 @@
 // What a histogram tells: its count, its sum, and the totals between bounds. Refused: SLOTS, DAMAGED. `histogram` passes the calls on.
+#![tactic(auto)]
+
 ghost use Rattle.std.specs.Prelude.{◌≡◌};
 ghost use Rattle.histogram_told.specs.Answers.{count_answer, sum_answer, below_answer, above_answer, between_answer};
 
@@ -7,14 +9,14 @@ use histogram_steps::{Histogram, Standing, Sum};
 use refusal::Refusal;
 
 // What `count` and the totals answer.
-#[derive(Drop)]
+#[derive(Clone, Copy)]
 pub enum Counted {
     Count(u32),
     Refused(Refusal),
 }
 
 // What `sum` answers.
-#[derive(Drop)]
+#[derive(Clone, Copy)]
 pub enum Summed {
     Of(Sum),
     Refused(Refusal),

@@ -1,5 +1,7 @@
 // The histogram's state and answers. Words that fit none are read as a state that is never sound, whatever is lent: the core refuses it, after
 // SLOTS, as DAMAGED.
+#![tactic(auto)]
+
 ghost use Rattle.std.specs.Prelude.{◌≡◌};
 ghost use Rattle.histogram_words.specs.Promises.{Promises};
 ghost use Rattle.histogram_words.specs.Histograms.{fits, misfit, sum_beside, histogram_of, sum_flag, sum_word, words_of, bound_of, flat_opened, flat_inserted, flat_counted, flat_summed};
@@ -9,7 +11,7 @@ use words::{Number, flag_fits, refused};
 
 // A histogram's state: the count, 1 if there is a sum else 0, the sum.
 #[repr(C)]
-#[derive(Drop)]
+#[derive(Clone, Copy)]
 pub struct HistogramWords {
     pub count: u64,
     pub has_sum: u64,
@@ -18,7 +20,7 @@ pub struct HistogramWords {
 
 // A histogram, or the refusal's number.
 #[repr(C)]
-#[derive(Drop)]
+#[derive(Clone, Copy)]
 pub struct HistogramAnswer {
     pub refusal: u32,
     pub histogram: HistogramWords,
@@ -26,7 +28,7 @@ pub struct HistogramAnswer {
 
 // A bound that is asked for: +Inf if `infinite` is not 0, whatever `value` says.
 #[repr(C)]
-#[derive(Drop)]
+#[derive(Clone, Copy)]
 pub struct BoundWords {
     pub infinite: u32,
     pub value: u32,
@@ -34,7 +36,7 @@ pub struct BoundWords {
 
 // The sum, if there is one.
 #[repr(C)]
-#[derive(Drop)]
+#[derive(Clone, Copy)]
 pub struct SumAnswer {
     pub refusal: u32,
     pub has_sum: u32,
@@ -43,7 +45,7 @@ pub struct SumAnswer {
 
 // A part of the lent counts.
 #[repr(C)]
-#[derive(Drop)]
+#[derive(Clone, Copy)]
 pub struct Part {
     pub refusal: u32,
     pub start: usize,

@@ -1,5 +1,7 @@
 // inv, the CKMS store's invariant: max(1, ⌊2 · error · x⌋), from which come a new entry's delta, what a compression merges and where a query stops.
 // Both functions take any words: what no rule speaks of is answered by its definition in `fraction`, and nothing traps.
+#![tactic(auto)]
+
 ghost use Rattle.std.specs.Prelude.{◌≡◌, ◌&&◌, leb};
 ghost use Rattle.fraction.specs.Allowed.{is_error, is_phi, observations, within};
 ghost use Rattle.fraction.specs.Inv.{inv, inv_at};

@@ -1,11 +1,13 @@
 // The running mean of the CKMS: a record of f64, updated operation by operation in the Rust's order.
 // Every function takes any words and any f64: nothing traps, and specs/ says what comes out.
+#![tactic(auto)]
+
 ghost use Rattle.std.specs.Prelude.{◌≡◌};
 ghost use Rattle.mean.specs.Mean.{finite};
 ghost use Rattle.mean.specs.Posts.{FirstPost, NextPost};
 ghost use Rattle.mean.specs.Promises.{MeanPromises};
 
-#[derive(Drop)]
+#[derive(Clone, Copy)]
 pub struct Mean {
     pub value: f64,
 }

@@ -1,4 +1,6 @@
 // The noise floor of a whole scan, under demand 3: a stream is opened, every observation inserted, a refused one skipped, and a quantile asked.
+#![tactic(auto)]
+
 ghost use Rattle.std.specs.Prelude.{◌≡◌};
 ghost use Rattle.entries.specs.Entry.{entries_of};
 ghost use Rattle.noise_floor.specs.Demand3.{given, stream_after, run};

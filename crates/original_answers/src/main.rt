@@ -3,6 +3,8 @@
 //     1 stream: ε's two words, observations        2 histogram: how many bounds, the bounds, observations
 //     3 store: the error's two words, block size, observations and compressions        4 CKMS: the error's two words, observations
 // The kind 0 ends the list.
+#![tactic(auto)]
+
 use ckms_store::Store;
 use ckms_theory::place;
 use summary::Summary;

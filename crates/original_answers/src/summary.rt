@@ -11,7 +11,7 @@ use refusal::Refusal;
 const COMPRESS: u32 = 4294967295;
 
 // One of the four, or the refusal that ended it.
-#[derive(Drop)]
+#[derive(Clone, Copy)]
 pub enum Summary {
     Stream(Stream),
     Histogram(Histogram),

@@ -1,5 +1,7 @@
 // The whole numbers that the modules take from a fraction: ⌊f·n⌋, p, the period, and the band of a delta.
 // Every function takes any words: what no rule speaks of is answered by its definition in `fraction`, and nothing traps.
+#![tactic(auto)]
+
 ghost use Rattle.std.specs.Prelude.{◌≡◌};
 ghost use Rattle.fraction.specs.Allowed.{is_epsilon, within};
 ghost use Rattle.fraction.specs.Products.{floor_mul, p_of, period};

@@ -1,4 +1,6 @@
 // The customer's readings that are not proved are run: 6, 8 and 13. What is written is compared with the numbers of their table.
+#![tactic(auto)]
+
 use ckms::CKMS;
 use ckms_store::Answer;
 use fraction::Fraction;

@@ -1,9 +1,11 @@
 // The numbered refusals: every call of the library that gives no answer gives one of these.
+#![tactic(auto)]
+
 ghost use Rattle.std.specs.Prelude.{◌≡◌};
 ghost use Rattle.refusal.specs.Number.{number_of};
 
 // Why a call is refused, by the names of the refusal table.
-#[derive(Drop)]
+#[derive(Clone, Copy)]
 pub enum Refusal {
     Slots,
     Epsilon,

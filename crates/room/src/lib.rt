@@ -1,4 +1,6 @@
 // Making room in a lent list, and zeroing places that became free. Each stands twice, for rows and for numbers; the laws are one.
+#![tactic(auto)]
+
 ghost use Rattle.std.specs.Prelude.{◌≡◌, ◌++◌, suc, ◌≤◌, ◌<◌, length, take, drop};
 ghost use Rattle.entries.specs.Entry.{row_of, zero_entry};
 ghost use Rattle.entries.specs.Lists.{put_at, cleared};

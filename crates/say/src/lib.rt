@@ -1,5 +1,6 @@
 // Lines on standard output for the programs: words, and numbers in decimal.
 // No contract can say what is written, so none stands here: every function is proved safe and ending, and what a program writes is compared.
+#![tactic(auto)]
 
 // Words, and no line's end.
 pub fn words(text: &[u8]) {

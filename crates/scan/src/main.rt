@@ -1,4 +1,6 @@
 // The scan program: reads a scan file from standard input, runs it over a fresh list of 4,096 zero triples, and writes the lines about it.
+#![tactic(auto)]
+
 use scan_file::Layout;
 
 fn main() {

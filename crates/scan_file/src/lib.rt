@@ -1,5 +1,7 @@
 // The scan file: three sections of u32 words, little-endian, each after its count: ε (2 words), fractions (two words each, at most 128 words),
 // observations (at most 8,192). Any bytes are taken in; those that break the layout are refused with FILE.
+#![tactic(auto)]
+
 ghost use Rattle.std.specs.Prelude.{◌≡◌, ◌<◌, ◌^◌, get_or};
 ghost use Rattle.scan_file.specs.Answers.{answer};
 ghost use Rattle.scan_file.specs.Layout.{parsed, fraction_at, observation_at, fraction_words, observations, file_bytes};
@@ -10,14 +12,14 @@ use fraction::Fraction;
 use refusal::Refusal;
 
 // What a scan file holds: ε, and how many fractions and observations. They are read in place.
-#[derive(Drop)]
+#[derive(Clone, Copy)]
 pub struct Layout {
     pub epsilon: Fraction,
     pub fractions: u32,
     pub observations: u32,
 }
 
-#[derive(Drop)]
+#[derive(Clone, Copy)]
 pub enum Parsed {
     Taken(Layout),
     Refused(Refusal),

@@ -1,4 +1,6 @@
 // Inserts the observations of a scan file one after another, up to the first refusal.
+#![tactic(auto)]
+
 ghost use Rattle.std.specs.Prelude.{◌≡◌};
 ghost use Rattle.entries.specs.Entry.{entries_of};
 ghost use Rattle.scan_file.specs.Layout.{observations_at};
@@ -8,7 +10,7 @@ use greenwald_khanna::{Inserted, Stream};
 use scan_file::Layout;
 
 // What inserting came to: the stream, and the number of the refusal that ended it, 0 where none did.
-#[derive(Drop)]
+#[derive(Clone, Copy)]
 pub struct Ran {
     pub stream: Stream,
     pub refused: u32,

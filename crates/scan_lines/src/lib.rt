@@ -1,4 +1,6 @@
 // The scan: a file parsed, a stream opened, its observations inserted up to the first refusal, and the lines about it as text.
+#![tactic(auto)]
+
 ghost use Rattle.std.specs.Prelude.{◌≡◌};
 ghost use Rattle.entries.specs.Entry.{entries_of};
 ghost use Rattle.scan_lines.specs.Promises.{Promises};

@@ -1,4 +1,6 @@
 // Puts pieces of text at a place: words, numbers in decimal, fractions.
+#![tactic(auto)]
+
 ghost use Rattle.std.specs.Prelude.{◌+◌, ◌≤◌, length};
 ghost use Rattle.scan_put.specs.Decimal.{decimal};
 ghost use Rattle.scan_put.specs.Pieces.{named, shown};

@@ -1,4 +1,6 @@
 // The lines that the scan program writes, and their text.
+#![tactic(auto)]
+
 ghost use Rattle.std.specs.Prelude.{◌+◌, ◌≤◌, length};
 ghost use Rattle.scan_put.specs.Put.{Put};
 ghost use Rattle.scan_text.specs.Lines.{text_of, line_bytes};
@@ -6,7 +8,7 @@ ghost use Rattle.scan_text.specs.Lines.{text_of, line_bytes};
 use fraction::Fraction;
 
 // A line: which one, and its numbers.
-#[derive(Drop)]
+#[derive(Clone, Copy)]
 pub enum Line {
     FileRefused(u32),
     OpenRefused(u32),

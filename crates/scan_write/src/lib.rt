@@ -1,4 +1,6 @@
 // The lines about a scan whose observations were inserted, as text.
+#![tactic(auto)]
+
 ghost use Rattle.std.specs.Prelude.{◌≡◌, map, ◌+◌, ◌*◌, ◌≤◌, length};
 ghost use Rattle.entries.specs.Entry.{entries_of};
 ghost use Rattle.scan_file.specs.Layout.{fractions_at};

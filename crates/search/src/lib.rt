@@ -1,4 +1,6 @@
 // Where a value goes in a sorted list.
+#![tactic(auto)]
+
 ghost use Rattle.std.specs.Prelude.{◌≡◌};
 ghost use Rattle.entries.specs.Entry.{entries_of, values};
 ghost use Rattle.entries.specs.Place.{place};

@@ -1,4 +1,6 @@
 // The store's state and answers. All six words fit a state, so the core's tests are all the tests.
+#![tactic(auto)]
+
 ghost use Rattle.std.specs.Prelude.{◌≡◌};
 ghost use Rattle.store_words.specs.Promises.{Promises};
 ghost use Rattle.store_words.specs.Stores.{store_of, words_of, flat_opened, flat_inserted, flat_compressed, flat_len, flat_empty, flat_ranked};
@@ -9,7 +11,7 @@ use words::{Number, refused};
 
 // A store's state.
 #[repr(C)]
-#[derive(Drop)]
+#[derive(Clone, Copy)]
 pub struct StoreWords {
     pub num: u32,
     pub den: u32,
@@ -21,7 +23,7 @@ pub struct StoreWords {
 
 // A store, or the refusal's number.
 #[repr(C)]
-#[derive(Drop)]
+#[derive(Clone, Copy)]
 pub struct StoreAnswer {
     pub refusal: u32,
     pub store: StoreWords,
@@ -29,7 +31,7 @@ pub struct StoreAnswer {
 
 // A rank and a value, or the refusal's number.
 #[repr(C)]
-#[derive(Drop)]
+#[derive(Clone, Copy)]
 pub struct RankedAnswer {
     pub refusal: u32,
     pub rank: u32,

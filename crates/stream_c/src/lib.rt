@@ -1,5 +1,7 @@
 // The boundary to C and Rust: the stream's calls as exported functions. Lists are lent in place, states are structs of plain words by value, and
 // an answer is a struct of numbers: the refusal's number or 0, and what the core answered. Every contract hands on the core's.
+#![tactic(auto)]
+
 ghost use Rattle.std.specs.Prelude.{◌≡◌};
 ghost use Rattle.entries.specs.Entry.{entries_of};
 ghost use Rattle.greenwald_khanna_told.specs.Answers.{told_p, told_n, told_s};

@@ -1,4 +1,6 @@
 // The stream's state and answers. All four words fit a state, so the core's tests are all the tests.
+#![tactic(auto)]
+
 ghost use Rattle.std.specs.Prelude.{◌≡◌};
 ghost use Rattle.stream_words.specs.Promises.{Promises};
 ghost use Rattle.stream_words.specs.Streams.{stream_of, words_of, flat_opened, flat_inserted, flat_answer};
@@ -9,7 +11,7 @@ use words::{Number, refused};
 
 // A stream's state.
 #[repr(C)]
-#[derive(Drop)]
+#[derive(Clone, Copy)]
 pub struct StreamWords {
     pub num: u32,
     pub den: u32,
@@ -19,7 +21,7 @@ pub struct StreamWords {
 
 // A stream, or the refusal's number.
 #[repr(C)]
-#[derive(Drop)]
+#[derive(Clone, Copy)]
 pub struct StreamAnswer {
     pub refusal: u32,
     pub stream: StreamWords,

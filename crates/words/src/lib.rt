@@ -1,5 +1,7 @@
 // What the words of every module share: a fraction, an answer that is one number or a refusal, and a flag beside what it tells of.
 // The states and answers are in stream_words, histogram_words, store_words, ckms_words and ckms_answer_words; the calls are in quantiles_c.
+#![tactic(auto)]
+
 ghost use Rattle.std.specs.Prelude.{◌≡◌};
 ghost use Rattle.words.specs.Words.{fraction_of, refused, flag_fits};
 
@@ -8,7 +10,7 @@ use refusal::Refusal;
 
 // A fraction, for C.
 #[repr(C)]
-#[derive(Drop)]
+#[derive(Clone, Copy)]
 pub struct Ratio {
     pub num: u32,
     pub den: u32,
@@ -16,7 +18,7 @@ pub struct Ratio {
 
 // What a call that tells one number answers.
 #[repr(C)]
-#[derive(Drop)]
+#[derive(Clone, Copy)]
 pub struct Number {
     pub refusal: u32,
     pub value: u32,

@@ -2,16 +2,12 @@
 -- Assumes nothing.
 use mathlib.Core.Path.{sym, ◌∙◌}
 use Rattle.mean.proofs.Examples.{readings}
-use Rattle.mean.proofs.promises.Statement.{statement}
-use Rattle.mean.proofs.promises.Tie as tie
+use Rattle.mean.proofs.promises.Goals as goal
 
-returns : tie.Need-returns
+pub returns : goal.returns
 returns c =
     record {
       one_first = λ v r s h k. h.answered ∙ sym k.answered;
       one_next = λ m v n r s h k. h.answered ∙ sym k.answered;
       readings = readings;
     }
-
-pub promises-spec : {M : Type 1} → statement M
-promises-spec = tie.close (tie.spec returns)

@@ -5,10 +5,9 @@ use Rattle.greenwald_khanna_theory.proofs.Abacus.{computed}
 use Rattle.greenwald_khanna_theory.proofs.Crossing.{never_cross, between_ends, ends_are_extremes}
 use Rattle.greenwald_khanna_theory.proofs.Explaining.{fresh_sound, insert_keeps, tidied_keeps, quantile_answers, each_explained, held_within}
 use Rattle.greenwald_khanna_theory.proofs.Sweeping.{sweep_compress}
-use Rattle.greenwald_khanna_theory.proofs.promises.Statement.{statement}
-use Rattle.greenwald_khanna_theory.proofs.promises.Tie as tie
+use Rattle.greenwald_khanna_theory.proofs.promises.Goals as goal
 
-returns : tie.Need-returns
+pub returns : goal.returns
 unfolding SweepCompresses
 returns c = record {
   readings = computed;
@@ -23,6 +22,3 @@ returns c = record {
   between_ends = between_ends;
   ends_are_extremes = ends_are_extremes;
 }
-
-pub promises-spec : {M : Type 1} → statement M
-promises-spec = tie.close (tie.spec returns)

@@ -4,10 +4,9 @@ use Rattle.entries.specs.Promises.{SortSorts, RanksByCount, StandsMember, PlaceC
 use Rattle.entries.proofs.Maps.{same_words, entries_back}
 use Rattle.entries.proofs.Places.{place_counts}
 use Rattle.entries.proofs.Sorting.{stands, stands_counts, sort_sorts, stands_member}
-use Rattle.entries.proofs.promises.Statement.{statement}
-use Rattle.entries.proofs.promises.Tie as tie
+use Rattle.entries.proofs.promises.Goals as goal
 
-returns : tie.Need-returns
+pub returns : goal.returns
 unfolding SortSorts RanksByCount StandsMember PlaceCounts SameWords EntriesBack
 returns c = record {
   sort_sorts = sort_sorts;
@@ -17,6 +16,3 @@ returns c = record {
   same_words = same_words;
   entries_back = entries_back;
 }
-
-pub promises-spec : {M : Type 1} → statement M
-promises-spec = tie.close (tie.spec returns)

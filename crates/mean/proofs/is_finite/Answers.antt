@@ -4,8 +4,7 @@ use mathlib.Core.Path.{◌≡◌, refl, sym}
 use mathlib.Core.Bool.{true, false}
 use lib.Ieee.{Float, nan, inf, fin, lt, neg, div, of_bits}
 use Rattle.mean.specs.Mean.{finite}
-use Rattle.mean.proofs.is_finite.Statement.{statement}
-use Rattle.mean.proofs.is_finite.Tie as tie
+use Rattle.mean.proofs.is_finite.Goals as goal
 
 above : (x : Float) → lt x (inf false) ≡ true → lt (inf true) x ≡ finite x
 unfolding lt
@@ -20,13 +19,10 @@ out nan h = refl
 out (inf s) h = refl
 out (fin s m e) h = sym h
 
-returns : tie.Need-returns
+pub returns-then-x-inf : goal.returns-then-x-inf
 unfolding neg div of_bits
-returns c = above c.before.args.x c.if1.true
+returns-then-x-inf c = above c.args.x c.if-x-inf.true
 
-returns-2 : tie.Need-returns-2
+pub returns-else-x-inf : goal.returns-else-x-inf
 unfolding neg div of_bits
-returns-2 c = out c.before.args.x c.if1.false
-
-pub is-finite-spec : {M : Type 1} → statement M
-is-finite-spec = tie.close (tie.spec returns returns-2)
+returns-else-x-inf c = out c.args.x c.if-x-inf.false

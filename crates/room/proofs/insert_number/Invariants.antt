@@ -1,0 +1,11 @@
+use mathlib.Core.Path.{◌≡◌}
+use Prim.Native.Nat.{◌-◌, ◌≤◌}
+use lib.ListN.{length}
+use Rattle.entries.proofs.Rooms.{shifted}
+use Rattle.room.proofs.insert_number.Given as goal
+
+abbrev pub invariant-loop-i : goal.invariant-loop-i
+invariant-loop-i l = (l.x ≤ l.i) × (l.i ≤ l.pos) × (length l.s ≡ length l.held) × (l.s ≡ shifted l.i l.pos l.held)
+
+abbrev pub decreases-loop-i : goal.decreases-loop-i
+decreases-loop-i l = l.i

@@ -1,0 +1,11 @@
+use Prim.Native.Nat.{◌-◌, ◌≤◌}
+use lib.ListN.{length}
+use Rattle.entries.specs.Entry.{entries_of, values}
+use Rattle.entries.proofs.Places.{Narrowed}
+use Rattle.search.proofs.smaller.Given as goal
+
+abbrev pub invariant-loop-low : goal.invariant-loop-low
+invariant-loop-low l = (l.high ≤ length l.rows) × Narrowed (values (entries_of l.rows)) l.x l.low l.high
+
+abbrev pub decreases-loop-low : goal.decreases-loop-low
+decreases-loop-low l = l.high - l.low
