@@ -6,7 +6,7 @@ use Rattle.entries.specs.Lists.{cleared}
 use Rattle.room.proofs.clear.Given as goal
 
 abbrev pub invariant-loop-i : goal.invariant-loop-i
-invariant-loop-i l = (l.to ≤ l.i) × (l.i ≤ l.initial.rows) × (length l.rows ≡ length l.from) × (l.rows ≡ cleared (row_of zero_entry) l.to l.i l.from)
+invariant-loop-i l = (l.from ≤ l.i) × (l.i ≤ l.to) × (length l.rows ≡ length l.initial.rows) × (l.rows ≡ cleared (row_of zero_entry) l.from l.i l.initial.rows)
 
 abbrev pub decreases-loop-i : goal.decreases-loop-i
-decreases-loop-i l = l.initial.rows - l.i
+decreases-loop-i l = l.to - l.i

@@ -5,7 +5,7 @@ use Rattle.entries.specs.Lists.{cleared}
 use Rattle.room.proofs.clear_numbers.Given as goal
 
 abbrev pub invariant-loop-i : goal.invariant-loop-i
-invariant-loop-i l = (l.to ≤ l.i) × (l.i ≤ l.initial.s) × (length l.s ≡ length l.from) × (l.s ≡ cleared 0 l.to l.i l.from)
+invariant-loop-i l = (l.from ≤ l.i) × (l.i ≤ l.to) × (length l.s ≡ length l.initial.s) × (l.s ≡ cleared 0 l.from l.i l.initial.s)
 
 abbrev pub decreases-loop-i : goal.decreases-loop-i
-decreases-loop-i l = l.initial.s - l.i
+decreases-loop-i l = l.to - l.i

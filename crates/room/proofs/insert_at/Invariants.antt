@@ -5,7 +5,7 @@ use Rattle.entries.proofs.Rooms.{shifted}
 use Rattle.room.proofs.insert_at.Given as goal
 
 abbrev pub invariant-loop-i : goal.invariant-loop-i
-invariant-loop-i l = (l.row ≤ l.i) × (l.i ≤ l.pos) × (length l.rows ≡ length l.held) × (l.rows ≡ shifted l.i l.pos l.held)
+invariant-loop-i l = (l.pos ≤ l.i) × (l.i ≤ l.held) × (length l.rows ≡ length l.initial.rows) × (l.rows ≡ shifted l.i l.held l.initial.rows)
 
 abbrev pub decreases-loop-i : goal.decreases-loop-i
 decreases-loop-i l = l.i

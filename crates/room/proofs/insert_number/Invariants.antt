@@ -5,7 +5,7 @@ use Rattle.entries.proofs.Rooms.{shifted}
 use Rattle.room.proofs.insert_number.Given as goal
 
 abbrev pub invariant-loop-i : goal.invariant-loop-i
-invariant-loop-i l = (l.x ≤ l.i) × (l.i ≤ l.pos) × (length l.s ≡ length l.held) × (l.s ≡ shifted l.i l.pos l.held)
+invariant-loop-i l = (l.pos ≤ l.i) × (l.i ≤ l.held) × (length l.s ≡ length l.initial.s) × (l.s ≡ shifted l.i l.held l.initial.s)
 
 abbrev pub decreases-loop-i : goal.decreases-loop-i
 decreases-loop-i l = l.i

@@ -8,10 +8,6 @@ use lib.Ieee.{binary64, fits}
 use Rattle.mean.proofs.Steps.{next_finite, next_in}
 use Rattle.mean.proofs.Mean.next.Goals as goal
 
--- what owning the struct tells: the format holds its field
-held : (c : tie.Start) → T (fits binary64 c.args.self.value)
-held c = subst T (sym c.well-formed.0.1.1.0.1) tt
-
 at_least_one : (n : ℕ) → 2 ≤ n → 1 ≤ n
 at_least_one n h = omega arith
 
@@ -20,8 +16,10 @@ returns c =
     let v = c.args.v in
     let n = c.args.n in
     let s = c.args.self.value in
+    -- what owning the struct tells: the format holds its field
+    let held : T (fits binary64 s) = subst T (sym c.well_formed.0.1.1.0.1) tt in
     record {
       answered = refl;
-      stays_finite = λ one h. next_finite v n c.ranges.v.fits c.ranges.n.fits one s (held a) h;
-      stays_in_range = λ two h. next_in v n c.ranges.v.fits c.ranges.n.fits (at_least_one n two) two s (held a) h;
+      stays_finite = λ one h. next_finite v n c.ranges.v.fits c.ranges.n.fits one s held h;
+      stays_in_range = λ two h. next_in v n c.ranges.v.fits c.ranges.n.fits (at_least_one n two) two s held h;
     }
