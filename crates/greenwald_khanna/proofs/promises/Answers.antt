@@ -8,10 +8,9 @@ use Rattle.greenwald_khanna.proofs.Exactly.{open_exactly, insert_exactly, quanti
 use Rattle.greenwald_khanna_steps.proofs.Fresh.{opened_fresh}
 use Rattle.greenwald_khanna.proofs.Kept.{inserted_kept}
 use Rattle.greenwald_khanna.proofs.Outcomes.{one_opening, one_insert, one_quantile}
-use Rattle.greenwald_khanna.proofs.promises.Statement.{statement}
-use Rattle.greenwald_khanna.proofs.promises.Tie as tie
+use Rattle.greenwald_khanna.proofs.promises.Goals as goal
 
-returns : tie.Need-returns
+pub returns : goal.returns
 unfolding FreshSound AcceptedSound SumsToN
 returns c = record {
   fresh_sound = λ ε list st e. (opened_fresh ε list st e (opened_list ε list)).0;
@@ -25,6 +24,3 @@ returns c = record {
   one_insert = one_insert;
   one_quantile = one_quantile;
 }
-
-pub promises-spec : {M : Type 1} → statement M
-promises-spec = tie.close (tie.spec returns)

@@ -3,11 +3,7 @@
 use Rattle.noise_floor.proofs.Abacus.{computed}
 use Rattle.noise_floor.proofs.Bounds.{demand3}
 use Rattle.noise_floor.proofs.Outcomes.{one_floor}
-use Rattle.noise_floor.proofs.promises.Statement.{statement}
-use Rattle.noise_floor.proofs.promises.Tie as tie
+use Rattle.noise_floor.proofs.promises.Goals as goal
 
-returns : tie.Need-returns
+pub returns : goal.returns
 returns c = record { demand3 = demand3; one_floor = one_floor; readings = computed }
-
-pub promises-spec : {M : Type 1} → statement M
-promises-spec = tie.close (tie.spec returns)
