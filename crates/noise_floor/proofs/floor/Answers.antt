@@ -6,7 +6,5 @@ use Rattle.noise_floor.proofs.floor.Goals as goal
 
 pub returns-in-Open : goal.returns-in-Open
 returns-in-Open c =
-    let o = c.«open» in
-    let s = c.stream-1.given in
-    floor_answered c.args.epsilon (entries_of c.args.rows.now) c.args.observations.now c.args.phi o.result (entries_of o.new.1.0) o.ensures
-    s.0.0 s.1 c.insert_all.result (entries_of c.insert_all.new.rows) c.quantile.result c.insert_all.ensures c.quantile.ensures
+    floor_answered c.args.epsilon (entries_of c.args.rows.now) c.args.observations.now c.args.phi c.open.result (entries_of c.open.new.rows) c.open.ensures
+    c.in-Open.stream c.in-Open.is c.insert_all.result (entries_of c.insert_all.new.rows) c.quantile.result c.insert_all.ensures c.quantile.ensures
