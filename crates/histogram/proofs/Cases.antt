@@ -16,7 +16,7 @@ use Rattle.histogram_steps.proofs.Keeping.{taken_sound}
 use Rattle.histogram_steps.proofs.Standings.{Ready}
 use Rattle.histogram.specs.declared.Inserted.{Inserted}
 use Rattle.histogram.specs.Answers.{insert_standing}
-use Rattle.histogram.specs.Contracts.{InsertPost}
+use Rattle.histogram.specs.Posts.{InsertPost}
 
 -- an insert
 module _ (h : Histogram) (bs cs : List ℕ) where

@@ -16,7 +16,7 @@ use Rattle.histogram_told.specs.Answers.{between_answer}
 use Rattle.histogram.specs.declared.Inserted.{Inserted}
 use Rattle.histogram.specs.Answers.{bins_answer}
 use Rattle.histogram_steps.specs.Opening.{OpenPost}
-use Rattle.histogram.specs.Contracts.{InsertPost}
+use Rattle.histogram.specs.Posts.{InsertPost}
 use Rattle.histogram.specs.Runs.{opened, filled, Words, Tells}
 
 -- the test that the calls make is the rules

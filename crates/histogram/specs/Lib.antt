@@ -1,5 +1,5 @@
 pub mod Answers
-pub mod Contracts
+pub mod Posts
 pub mod Runs
 pub mod Laws
 pub mod Readings

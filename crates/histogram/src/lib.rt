@@ -4,7 +4,7 @@
 
 ghost use Rattle.std.specs.Prelude.{◌≡◌};
 ghost use Rattle.histogram.specs.Answers.{bins_answer, bins_number};
-ghost use Rattle.histogram.specs.Contracts.{InsertPost};
+ghost use Rattle.histogram.specs.Posts.{InsertPost};
 ghost use Rattle.histogram.specs.Promises.{Promises};
 
 use fraction::wide;

@@ -6,7 +6,7 @@ use Rattle.histogram_steps.specs.declared.Histogram.{Histogram}
 use Rattle.histogram_steps.specs.declared.Opened.{Opened}
 use Rattle.histogram.specs.declared.Inserted.{Inserted}
 use Rattle.histogram_steps.specs.Opening.{OpenPost}
-use Rattle.histogram.specs.Contracts.{InsertPost}
+use Rattle.histogram.specs.Posts.{InsertPost}
 use Rattle.histogram.specs.Answers.{bins_answer, bins_number}
 use Rattle.histogram_rows.specs.Bounds.{ending}
 use Rattle.histogram_words.specs.declared.HistogramWords.{HistogramWords}

@@ -9,10 +9,9 @@ use Rattle.histogram_steps.proofs.Sounds.{sound_means, sound_holds}
 use Rattle.histogram.specs.Laws.{SoundAgrees, BelowAndAbove, PartAddsUp, OpensOneWay, InsertsOneWay}
 use Rattle.histogram.proofs.Filling.{filled_tells}
 use Rattle.histogram.proofs.Examples.{readings}
-use Rattle.histogram.proofs.promises.Statement.{statement}
-use Rattle.histogram.proofs.promises.Tie as tie
+use Rattle.histogram.proofs.promises.Goals as goal
 
-returns : tie.Need-returns
+pub returns : goal.returns
 unfolding SoundAgrees BelowAndAbove BinsAreAPart PartAddsUp OpensOneWay InsertsOneWay
 returns c = record {
   sound_agrees = λ h bs cs. (sound_means h bs cs, sound_holds h bs cs);
@@ -26,6 +25,3 @@ returns c = record {
   filled_tells = filled_tells;
   readings = readings;
 }
-
-pub promises-spec : {M : Type 1} → statement M
-promises-spec = tie.close (tie.spec returns)
