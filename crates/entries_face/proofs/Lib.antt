@@ -1,3 +1,1 @@
-pub mod By
 pub mod Copies
-pub mod Of

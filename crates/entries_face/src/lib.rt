@@ -1,5 +1,4 @@
 // The loops over a lent list of entry structs, and there are no others: entries out to rows, entries back from rows, every slot zeroed.
-// The borrow checker covers no function that lends such a list: its part of these proofs is ported (tools/port).
 #![tactic(auto)]
 
 ghost use Rattle.std.specs.Prelude.{◌≡◌, ◌++◌, ◌≤◌, length, take, drop, replicate};

@@ -1,6 +1,5 @@
 // The stream over a lent list of entry structs: the core's calls, with the core's contracts. Each is thin: the core works on the slots in reach
-// alone, by way of local rows (`greenwald_khanna_through`). Only `open` needs no rows. The borrow checker covers no function that lends such a
-// list: its part of these proofs is ported (tools/port).
+// alone, by way of local rows (`greenwald_khanna_through`). Only `open` needs no rows.
 #![tactic(auto)]
 
 ghost use Rattle.std.specs.Prelude.{◌≡◌};

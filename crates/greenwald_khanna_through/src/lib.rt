@@ -1,5 +1,5 @@
 // An insert and a question by way of local rows: the first k slots of the list go out to the rows, the core works on those, and what it leaves
-// goes back. The borrow checker covers no function that lends such a list: its part of these proofs is ported (tools/port).
+// goes back.
 #![tactic(auto)]
 
 ghost use Rattle.std.specs.Prelude.{◌≡◌, ◌++◌, ◌≤◌, length, take, drop};
