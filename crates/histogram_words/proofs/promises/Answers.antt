@@ -2,14 +2,10 @@
 -- Assumes nothing.
 use Rattle.histogram_words.proofs.Backs.{histogram_back}
 use Rattle.histogram_words.proofs.Misfits.{histogram_misfits}
-use Rattle.histogram_words.proofs.promises.Statement.{statement}
-use Rattle.histogram_words.proofs.promises.Tie as tie
+use Rattle.histogram_words.proofs.promises.Goals as goal
 
-returns : tie.Need-returns
+pub returns : goal.returns
 returns c = record {
   histogram_misfits = histogram_misfits;
   histogram_back = histogram_back;
 }
-
-pub promises-spec : {M : Type 1} → statement M
-promises-spec = tie.close (tie.spec returns)
