@@ -1,10 +1,9 @@
 -- `scan_file::promises` meets its contract: each promise is a theorem.
 -- Assumes nothing.
 use Rattle.scan_file.proofs.Files.{encoded_is_taken, taken_is_encoded, none_longer, fraction_stands, observation_stands, example_bytes}
-use Rattle.scan_file.proofs.promises.Statement.{statement}
-use Rattle.scan_file.proofs.promises.Tie as tie
+use Rattle.scan_file.proofs.promises.Goals as goal
 
-returns : tie.Need-returns
+pub returns : goal.returns
 returns c = record {
   encoded_is_taken = encoded_is_taken;
   taken_is_encoded = taken_is_encoded;
@@ -13,6 +12,3 @@ returns c = record {
   observation_stands = observation_stands;
   example_bytes = example_bytes;
 }
-
-pub promises-spec : {M : Type 1} → statement M
-promises-spec = tie.close (tie.spec returns)
