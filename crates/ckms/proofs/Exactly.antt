@@ -129,7 +129,7 @@ unfolding queried
 query_exactly c list lens q =
     let a : Bool = slots_ok (length list) (length lens) in
     let b : Bool = sound c list lens in
-    let s = store.query-exactly (samples c) list lens q in
+    let s = store.query_exactly (samples c) list lens q in
     record {
       slots = first_refused a b (λ e. differ (cc)) (λ p r e. let z : true ≡ false = sym p ∙ s.slots.0 e in differ (cc));
       damaged =

@@ -26,7 +26,7 @@ use Rattle.ckms_store_steps.specs.Sound.{sound}
 use Rattle.ckms_store_steps.specs.Held.{nothing}
 use Rattle.ckms_store_steps.proofs.Kept.{kept_sound}
 use Rattle.ckms_store_steps.proofs.Tested.{answer_of, by_check, check_passed}
-use Rattle.ckms_store_work.proofs.Works.{rules, slots_are}
+use Rattle.ckms_store_work.proofs.Works.{ruled, slots_are}
 use Rattle.ckms_store_steps.specs.declared.Opened.TheVariants as opening
 use Rattle.ckms_store.specs.declared.Answer.TheVariants as answering
 use Rattle.ckms_store.specs.declared.Inserted.TheVariants as inserting
@@ -123,7 +123,7 @@ module _ (s : Store) (list : List Entry) (lens : List ℕ) where
 
         pub asking : Asking s list q
         asking =
-            let f = rules s list lens r in
+            let f = ruled s list lens r in
             record {
               error = f.error;
               phi = h;

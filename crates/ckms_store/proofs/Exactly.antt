@@ -23,7 +23,7 @@ use Rattle.ckms_store_steps.specs.Answers.{tested, checked, state_of}
 use Rattle.ckms_store_steps.specs.Limits.{observations, slots_ok, size_ok}
 use Rattle.ckms_store_steps.specs.Sound.{sound}
 use Rattle.ckms_store_steps.proofs.Tested.{same_refusals}
-use Rattle.ckms_store_work.proofs.Works.{rules}
+use Rattle.ckms_store_work.proofs.Works.{ruled}
 use Rattle.ckms_store.specs.declared.Inserted.TheVariants as inserting
 use Rattle.ckms_store.specs.declared.Compressed.TheVariants as compressing
 use Rattle.ckms_store.specs.declared.Length.TheVariants as counting
@@ -116,7 +116,7 @@ module _ (s : Store) (list : List Entry) (lens : List ℕ) (x : ℕ) where
       λ e.
           let o = tested_own inserting.Refused _ s list lens e (λ z. differ (cc)) (λ z. differ (cc)) in
           let k = refused c o.1 (neither d (λ z. differ (cc)) (λ z. differ (cc))) in
-          (o.0, omega (arith, (rules s list lens o.0).count, leb-true observations s.n k)),
+          (o.0, omega (arith, (ruled s list lens o.0).count, leb-true observations s.n k)),
       λ h. own s list lens inserting.Refused _ h.0 ∙ rw (le-leb observations s.n (omega arith)),
     );
     full = (
@@ -124,7 +124,7 @@ module _ (s : Store) (list : List Entry) (lens : List ℕ) (x : ℕ) where
           let o = tested_own inserting.Refused _ s list lens e (λ z. differ (cc)) (λ z. differ (cc)) in
           let k = passed c o.1 (λ z. differ (cc)) in
           let l = refused d k.1 (λ z. differ (cc)) in
-          (o.0, leb-false observations s.n k.0, omega (arith, (rules s list lens o.0).fits, leb-true (length list) s.held l)),
+          (o.0, leb-false observations s.n k.0, omega (arith, (ruled s list lens o.0).fits, leb-true (length list) s.held l)),
       λ h. own s list lens inserting.Refused _ h.0 ∙ rw (lt-leb observations s.n h.1, le-leb (length list) s.held (omega arith)),
     );
     taken = (

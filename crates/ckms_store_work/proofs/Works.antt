@@ -76,29 +76,29 @@ pub grown_inside : (size blocks b : ℕ) (lens : List ℕ) (after : ℕ) (lens' 
 grown_inside size blocks b lens after lens' g = omega (arith, g.count, ap length g.list, length-append (grown size b (take blocks lens)) (drop after lens))
 
 module _ (s : Store) (list : List Entry) (lens : List ℕ) (r : Ready s list lens) where
-  pub rules : Rules s list lens
-  rules = sound_rules s list lens r.sound
+  pub ruled : Rules s list lens
+  ruled = sound_rules s list lens r.sound
 
   pub slots_are : (1 ≤ length list) × (length list ≤ 4096) × (length lens ≡ length list)
   slots_are = slots_facts (length list) (length lens) r.allowed
 
   held-long : length (take s.held list) ≡ s.held
-  held-long = length-take-le s.held list rules.fits
+  held-long = length-take-le s.held list ruled.fits
 
   blocks-long : length (take s.blocks lens) ≡ s.blocks
-  blocks-long = length-take-le s.blocks lens rules.places
+  blocks-long = length-take-le s.blocks lens ruled.places
 
   -- there are no more blocks than entries
   pub blocks_few : s.blocks ≤ s.held
-  blocks_few = omega (arith, blocks_least s.block (take s.blocks lens) rules.blocks, rules.all, blocks-long)
+  blocks_few = omega (arith, blocks_least s.block (take s.blocks lens) ruled.blocks, ruled.all, blocks-long)
 
   pub in_blocks : InBlocks (take s.held list) (take s.blocks lens)
   in_blocks = record {
-    few = omega (arith, held-long, rules.fits, slots_are);
-    counted = omega (arith, rules.summed, rules.count);
-    sorted = rules.sorted;
-    each = none_empty s.block (take s.blocks lens) rules.blocks;
-    all = rules.all ∙ sym held-long;
+    few = omega (arith, held-long, ruled.fits, slots_are);
+    counted = omega (arith, ruled.summed, ruled.count);
+    sorted = ruled.sorted;
+    each = none_empty s.block (take s.blocks lens) ruled.blocks;
+    all = ruled.all ∙ sym held-long;
   }
 
   -- a step that keeps the rules, and whose lists begin with what is held, leaves a sound state
@@ -110,31 +110,31 @@ module _ (s : Store) (list : List Entry) (lens : List ℕ) (r : Ready s list len
     entries = q;
     blocks = t;
     kept = rw (p, q, t)
-        (kept_sound s n h (layout zero_entry h.entries most list) (layout 0 h.blocks mostBlocks lens) k rules.error c rules.size
+        (kept_sound s n h (layout zero_entry h.entries most list) (layout 0 h.blocks mostBlocks lens) k ruled.error c ruled.size
         (layout_room zero_entry h.entries most list) (layout_room 0 h.blocks mostBlocks lens) (layout_front zero_entry h.entries most list)
         (layout_front 0 h.blocks mostBlocks lens));
   }
 
   pub size_pos : 1 ≤ s.block
-  size_pos = (size_facts s.block rules.size).0
+  size_pos = (size_facts s.block ruled.size).0
 
   -- one observation more, and a compression, laid out in the lent lists, are sound
   pub put_sound : (x : ℕ) → s.n < observations
       → sound (state_of s (suc s.n) (put_in s list lens x)) (layout zero_entry (put_in s list lens x).entries (suc s.held) list) (layout 0 (put_in s list lens x).blocks (length (put_in s list lens x).blocks) lens) ≡ true
   put_sound x l =
       (left (suc s.n) (put_in s list lens x) (suc s.held) (length (put_in s list lens x).blocks) _ _ _
-      (put_kept s.error s.block s.n x (held_in s list lens) rules.error size_pos l (sound_kept s list lens rules)) l refl refl refl).kept
+      (put_kept s.error s.block s.n x (held_in s list lens) ruled.error size_pos l (sound_kept s list lens ruled)) l refl refl refl).kept
 
   pub tidy_sound : sound (state_of s s.n (tidy_in s list lens)) (layout zero_entry (tidy_in s list lens).entries s.held list) (layout 0 (tidy_in s list lens).blocks s.blocks lens) ≡ true
   tidy_sound =
-      (left s.n (tidy_in s list lens) s.held s.blocks _ _ _ (tidy_kept s.error s.block s.n (held_in s list lens) (sound_kept s list lens rules)) rules.count refl refl refl).kept
+      (left s.n (tidy_in s list lens) s.held s.blocks _ _ _ (tidy_kept s.error s.block s.n (held_in s list lens) (sound_kept s list lens ruled)) ruled.count refl refl refl).kept
 
   module _ (x : ℕ) (l : s.n < observations) (spot : Spot) (f : Sought x (take s.held list) (take s.blocks lens) spot) where
     pub place_inside : spot.place ≤ s.held
     place_inside = omega (arith, f.place, below_le (values (take s.held list)) x, length-map (take s.held list) (λ (e : Entry). e.v), held-long)
 
     pub rank_fits : spot.rank ≤ 1000004096
-    rank_fits = omega (arith, f.rank, rank_small x (take s.held list) (take s.blocks lens), rules.summed, held-long, rules.fits, slots_are)
+    rank_fits = omega (arith, f.rank, rank_small x (take s.held list) (take s.blocks lens), ruled.summed, held-long, ruled.fits, slots_are)
 
     pub block_there : spot.block ≤ s.blocks - 1
     block_there = omega (arith, f.found, block_last x (take s.held list) (take s.blocks lens), blocks-long)
@@ -149,9 +149,9 @@ module _ (s : Store) (list : List Entry) (lens : List ℕ) (r : Ready s list len
         let h : Held = put_in s list lens x in
         let new : d ≡ new_delta s.error x (held_in s list lens) = e ∙ rw (f.place, f.rank, held-long) in
         let c : a.blocks ≡ length h.blocks = rw f.found at g.count in
-        let long : length h.entries ≡ suc s.held = put_length s list lens x rules.fits in
+        let long : length h.entries ≡ suc s.held = put_length s list lens x ruled.fits in
         left (suc s.n) h (suc s.held) (length h.blocks) a list' lens'
-        (put_kept s.error s.block s.n x (held_in s list lens) rules.error size_pos l (sound_kept s list lens rules)) l
+        (put_kept s.error s.block s.n x (held_in s list lens) ruled.error size_pos l (sound_kept s list lens ruled)) l
         (store_eq a s.error (suc s.n) (length h.entries) s.block (length h.blocks) a₁ (omega arith) (omega (arith, long)) a₄ c)
         (rw (f.place, new) at p ∙ layout_full zero_entry h.entries (suc s.held) list long)
         (rw (f.found, c) at g.list ∙ layout_full 0 h.blocks (length h.blocks) lens refl)
@@ -160,11 +160,11 @@ module _ (s : Store) (list : List Entry) (lens : List ℕ) (r : Ready s list len
     -- what the two halves of a compression ask
     pub whole : Whole s.error s.held (take s.blocks lens)
     whole = record {
-      allowed = rules.error;
-      few = omega (arith, rules.fits, slots_are);
-      block = some (take s.blocks lens) rules.all;
-      first = first (take s.blocks lens) rules.blocks rules.all;
-      all = rules.all;
+      allowed = ruled.error;
+      few = omega (arith, ruled.fits, slots_are);
+      block = some (take s.blocks lens) ruled.all;
+      first = first (take s.blocks lens) ruled.blocks ruled.all;
+      all = ruled.all;
     }
       where
         some : (ls : List ℕ) → total ls ≡ s.held → 0 < length ls
@@ -186,7 +186,7 @@ module _ (s : Store) (list : List Entry) (lens : List ℕ) (r : Ready s list len
           let t : take s.blocks lens' ≡ ls = ap (take s.blocks) q.lengths ∙ take_at ls (drop s.blocks lens) s.blocks kept-long in
           let d : drop s.blocks lens' ≡ drop s.blocks lens = ap (drop s.blocks) q.lengths ∙ drop_at ls (drop s.blocks lens) s.blocks kept-long in
           let e : tidy_in s list lens ≡ record { entries = squashed s.error (take s.held list); blocks = joined s.block ls } = tidy_many s.error s.block (held_in s list lens) (omega (arith, held-long)) in
-          left s.n (tidy_in s list lens) s.held s.blocks a list' lens'' (tidy_kept s.error s.block s.n (held_in s list lens) (sound_kept s list lens rules)) rules.count
+          left s.n (tidy_in s list lens) s.held s.blocks a list' lens'' (tidy_kept s.error s.block s.n (held_in s list lens) (sound_kept s list lens ruled)) ruled.count
           (rw e (store_eq a s.error s.n (length (squashed s.error (take s.held list))) s.block (length (joined s.block ls)) a₁ a₂ (a₃ ∙ q.count) a₄ (rw t at j.count)))
           (rw e q.entries)
           (rw e (rw (t, d) at j.lengths))
@@ -194,7 +194,7 @@ module _ (s : Store) (list : List Entry) (lens : List ℕ) (r : Ready s list len
   pub tidy_few : s.held < 3 → TidyPost s list lens s list lens
   tidy_few h =
       let e : tidy_in s list lens ≡ held_in s list lens = tidy_none s.error s.block (held_in s list lens) (omega (arith, held-long)) in
-      left s.n (tidy_in s list lens) s.held s.blocks s list lens (tidy_kept s.error s.block s.n (held_in s list lens) (sound_kept s list lens rules)) rules.count
+      left s.n (tidy_in s list lens) s.held s.blocks s list lens (tidy_kept s.error s.block s.n (held_in s list lens) (sound_kept s list lens ruled)) ruled.count
       (rw e (store_eq s s.error s.n (length (take s.held list)) s.block (length (take s.blocks lens)) refl refl (sym held-long) refl (sym blocks-long)))
       (rw e (sym (take-append-drop s.held list) ∙ layout_full zero_entry (take s.held list) s.held list held-long))
       (rw e (sym (take-append-drop s.blocks lens) ∙ layout_full 0 (take s.blocks lens) s.blocks lens blocks-long))

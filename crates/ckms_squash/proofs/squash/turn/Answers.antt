@@ -1,0 +1,15 @@
+-- `ckms_squash::squash::turn` meets its contract: each arm of the test is one arm of the definition.
+-- Assumes nothing.
+use mathlib.Core.Path.{sym, ◌∙◌}
+use Prim.Native.Nat.{◌-◌}
+use Rattle.ckms_squash.proofs.Turns.{turn_merged, turn_kept}
+use Rattle.ckms_squash.proofs.squash.turn.Goals as goal
+
+pub returns-then-merges : goal.returns-then-merges
+returns-then-merges c =
+    turn_merged c.args.error c.args.rows.now c.args.w c.args.i c.merge-both.result
+    (rw c.step_rank.ensures at (sym c.merges.ensures ∙ c.if-merges.true)) c.merge-both.ensures
+
+pub returns : goal.returns
+returns c =
+    turn_kept c.args.error c.args.rows.now c.args.w c.args.i (rw c.step_rank.ensures at (sym c.merges.ensures ∙ c.if-merges.false))
