@@ -102,17 +102,17 @@ module _ (s : Store) (list : List Entry) (lens : List ℕ) (r : Ready s list len
   }
 
   -- a step that keeps the rules, and whose lists begin with what is held, leaves a sound state
-  left : (n : ℕ) (h : Held) (most mostBlocks : ℕ) (a : Store) (list' : List Entry) (lens' : List ℕ) → Kept s.block n h → n ≤ observations
-      → a ≡ state_of s n h → list' ≡ layout zero_entry h.entries most list → lens' ≡ layout 0 h.blocks mostBlocks lens
-      → Left s n h most mostBlocks list lens a list' lens'
-  left n h most mostBlocks a list' lens' k c p q t = record {
+  left : (n : ℕ) (h : Held) (most most_blocks : ℕ) (a : Store) (list' : List Entry) (lens' : List ℕ) → Kept s.block n h → n ≤ observations
+      → a ≡ state_of s n h → list' ≡ layout zero_entry h.entries most list → lens' ≡ layout 0 h.blocks most_blocks lens
+      → Left s n h most most_blocks list lens a list' lens'
+  left n h most most_blocks a list' lens' k c p q t = record {
     state = p;
     entries = q;
     blocks = t;
     kept = rw (p, q, t)
-        (kept_sound s n h (layout zero_entry h.entries most list) (layout 0 h.blocks mostBlocks lens) k ruled.error c ruled.size
-        (layout_room zero_entry h.entries most list) (layout_room 0 h.blocks mostBlocks lens) (layout_front zero_entry h.entries most list)
-        (layout_front 0 h.blocks mostBlocks lens));
+        (kept_sound s n h (layout zero_entry h.entries most list) (layout 0 h.blocks most_blocks lens) k ruled.error c ruled.size
+        (layout_room zero_entry h.entries most list) (layout_room 0 h.blocks most_blocks lens) (layout_front zero_entry h.entries most list)
+        (layout_front 0 h.blocks most_blocks lens));
   }
 
   pub size_pos : 1 ≤ s.block

@@ -16,11 +16,11 @@ pub record Ready (s : Store) (list : List Entry) (lens : List ℕ) : Type 0 wher
   pub allowed : slots_ok (length list) (length lens) ≡ true
   pub sound : sound s list lens ≡ true
 
--- the state and the lent lists after a step that leaves h, and held `most` entries and `mostBlocks` blocks at any moment
-pub record Left (s : Store) (n : ℕ) (h : Held) (most mostBlocks : ℕ) (list : List Entry) (lens : List ℕ) (after : Store) (list' : List Entry) (lens' : List ℕ) : Type 0 where
+-- the state and the lent lists after a step that leaves h, and held `most` entries and `most_blocks` blocks at any moment
+pub record Left (s : Store) (n : ℕ) (h : Held) (most most_blocks : ℕ) (list : List Entry) (lens : List ℕ) (after : Store) (list' : List Entry) (lens' : List ℕ) : Type 0 where
   pub state : after ≡ state_of s n h
   pub entries : list' ≡ layout zero_entry h.entries most list
-  pub blocks : lens' ≡ layout 0 h.blocks mostBlocks lens
+  pub blocks : lens' ≡ layout 0 h.blocks most_blocks lens
   pub kept : sound after list' lens' ≡ true
 
 -- one observation more

@@ -9,7 +9,7 @@ pub record Promises : Type 0 where
   pub bin_is_first : BinIsFirst
   pub below_and_above : BelowAndAbove
   pub between_is_difference : BetweenIsDifference
-  pub bins_are_apart : BinsAreAPart
+  pub bins_are_a_part : BinsAreAPart
   pub part_adds_up : PartAddsUp
   pub opens_one_way : OpensOneWay
   pub inserts_one_way : InsertsOneWay

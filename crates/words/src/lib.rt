@@ -1,5 +1,5 @@
 // What the words of every module share: a fraction, an answer that is one number or a refusal, and a flag beside what it tells of.
-// The states and answers are in stream_words, histogram_words, store_words, ckms_words and ckms_answer_words; the calls are in quantiles_c.
+// The states and answers are in stream_words, histogram_words, store_words, ckms_words and ckms_answer_words; the calls are in stream_c, histogram_c, store_c and ckms_c.
 #![tactic(auto)]
 
 ghost use Rattle.std.specs.Prelude.{◌≡◌};

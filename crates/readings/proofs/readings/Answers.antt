@@ -9,10 +9,9 @@ use Rattle.noise_floor.proofs.Abacus as stream
 use Rattle.histogram.proofs.Examples as histogram
 use Rattle.mean.proofs.Examples as mean
 use Rattle.scan_lines.proofs.Examples as scan
-use Rattle.readings.proofs.readings.Statement.{statement}
-use Rattle.readings.proofs.readings.Tie as tie
+use Rattle.readings.proofs.readings.Goals as goal
 
-returns : tie.Need-returns
+pub returns : goal.returns
 unfolding place halvings
 returns c = record {
   stream = stream.computed;
@@ -25,6 +24,3 @@ returns c = record {
   ckms = ckms.computed;
   mean = mean.readings;
 }
-
-pub readings-spec : {M : Type 1} → statement M
-readings-spec = tie.close (tie.spec returns)
