@@ -1,5 +1,5 @@
 // The core's calls on the first k rows of a longer slice, and how many rows a call can need.
-// The calls over entry structs work by these. No entry is lent here, so the borrow checker covers them all.
+// The calls over entry structs work by these.
 #![tactic(auto)]
 
 ghost use Rattle.std.specs.Prelude.{◌≡◌, ◌≤◌, length, take};

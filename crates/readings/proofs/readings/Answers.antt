@@ -15,7 +15,7 @@ pub returns : goal.returns
 unfolding place halvings
 returns c = record {
   stream = stream.computed;
-  written = scan.reading-2;
+  written = scan.reading_2;
   reading3 = record { band0 = refl; band2 = refl; band3 = refl };
   reading4 = record { place20 = refl };
   reading11 = record { inv0 = refl; inv998 = refl; inv1000 = refl };
