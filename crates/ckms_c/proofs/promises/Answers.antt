@@ -1,14 +1,10 @@
 -- `ckms_c::promises` meets its contract: each statement is a theorem of this folder.
 -- Assumes nothing.
 use Rattle.ckms_c.proofs.Outcomes.{ckms_opens, ckms_inserts}
-use Rattle.ckms_c.proofs.promises.Statement.{statement}
-use Rattle.ckms_c.proofs.promises.Tie as tie
+use Rattle.ckms_c.proofs.promises.Goals as goal
 
-returns : tie.Need-returns
+pub returns : goal.returns
 returns c = record {
   ckms_opens_one_way = ckms_opens;
   ckms_inserts_one_way = ckms_inserts;
 }
-
-pub promises-spec : {M : Type 1} → statement M
-promises-spec = tie.close (tie.spec returns)
