@@ -1,5 +1,5 @@
 -- An accepted insert: the record made anew over the store after it, and that it is sound. Assumes nothing.
-use mathlib.Core.Path.{◌≡◌, refl, sym, ap, ◌∙◌}
+use mathlib.Core.Path.{◌≡◌, sym, ap, ◌∙◌}
 use Prim.Native.Nat.{ℕ, suc, ◌+◌, ◌<◌}
 use native.Mathlib.Nat.{mod-lt, le-max_left}
 use native.Mathlib.Omega.{arith}

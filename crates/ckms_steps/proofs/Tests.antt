@@ -15,7 +15,7 @@ use Rattle.ckms_store_steps.specs.Sound as sounding
 use Rattle.ckms_store_steps.specs.Answers as answering
 use Rattle.ckms_store_steps.proofs.Tested.{two, answer_of}
 use Rattle.ckms_steps.specs.declared.CKMS.{CKMS}
-use Rattle.ckms_steps.specs.State.{modulus, last_sound, cma_sound, samples, record_sound, sound}
+use Rattle.ckms_steps.specs.State.{modulus, last_sound, cma_sound, samples, record_sound}
 use Rattle.ckms_steps.specs.Steps.{checked}
 
 -- what a CKMS has beside its store, by the first part that is not sound

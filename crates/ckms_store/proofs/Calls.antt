@@ -1,5 +1,5 @@
 -- The tests of every call, and the answers and lists that follow from them. Assumes nothing.
-use mathlib.Core.Path.{◌≡◌, refl, sym, ap, ◌∙◌}
+use mathlib.Core.Path.{◌≡◌, sym, ap, ◌∙◌}
 use mathlib.Core.Bool.{true, false}
 use mathlib.Core.List.{List}
 use Prim.Native.Nat.{ℕ, suc, ◌≤◌, ◌<◌}
@@ -7,31 +7,24 @@ use native.Mathlib.Omega.{arith}
 use borrow.Author.Tests.{le-leb, lt-leb, eq-eqb, ne_eqb}
 use lib.ListN.{length, take}
 use Rattle.refusal.specs.declared.Refusal.{Refusal}
-use Rattle.refusal.specs.declared.Refusal.TheVariants.{Slots, Epsilon, Block, Count, Full, Phi, Empty}
+use Rattle.refusal.specs.declared.Refusal.TheVariants.{Count, Full, Phi, Empty}
 use Rattle.fraction.specs.declared.Fraction.{Fraction}
-use Rattle.fraction.specs.Allowed.{is_phi, is_error}
+use Rattle.fraction.specs.Allowed.{is_phi}
 use Rattle.entries.specs.declared.Entry.{Entry}
-use Rattle.entries.specs.Entry.{zero_entry}
-use Rattle.entries.specs.Lists.{cleared}
 use Rattle.entries.proofs.Choose.{by_order}
 use Rattle.entries.proofs.Guards.{differ}
-use Rattle.entries.proofs.Layouts.{cleared_all}
 use Rattle.ckms_theory.specs.declared.Ranked.{Ranked}
 use Rattle.ckms_theory.specs.Walk.{look_up}
 use Rattle.ckms_store_steps.specs.declared.Store.{Store}
 use Rattle.ckms_store_steps.specs.declared.Checked.TheVariants as checking
 use Rattle.ckms_store_steps.specs.Answers.{tested, checked, state_of}
-use Rattle.ckms_store_steps.specs.Limits.{observations, slots_ok, size_ok}
+use Rattle.ckms_store_steps.specs.Limits.{observations, slots_ok}
 use Rattle.ckms_store_steps.specs.Sound.{sound}
-use Rattle.ckms_store_steps.specs.Held.{nothing}
-use Rattle.ckms_store_steps.proofs.Kept.{kept_sound}
 use Rattle.ckms_store_steps.proofs.Tested.{answer_of, by_check, check_passed}
 use Rattle.ckms_store_work.proofs.Works.{ruled, slots_are}
-use Rattle.ckms_store_steps.specs.declared.Opened.TheVariants as opening
 use Rattle.ckms_store.specs.declared.Answer.TheVariants as answering
 use Rattle.ckms_store.specs.declared.Inserted.TheVariants as inserting
 use Rattle.ckms_store.specs.declared.Compressed.TheVariants as compressing
-use Rattle.ckms_store_steps.specs.Opening.{fresh, opened, OpenPost}
 use Rattle.ckms_store_work.specs.Changes.{put_in, tidy_in}
 use Rattle.ckms_store_look.specs.Query.{scale_of, limit_of, Asking}
 use Rattle.ckms_store_work.specs.Steps.{Ready, PutPost, TidyPost}

@@ -1,9 +1,7 @@
 -- What holds after each call but opening: its answer and both lent lists as functions of the input; and an accepted call leaves a sound state.
 -- Assumes nothing: these are definitions.
 use Rattle.std.specs.Prelude.{◌≡◌, true, ℕ, List}
-use Rattle.fraction.specs.declared.Fraction.{Fraction}
 use Rattle.entries.specs.declared.Entry.{Entry}
-use Rattle.entries.specs.Entry.{zero_entry}
 use Rattle.ckms_store_steps.specs.declared.Store.{Store}
 use Rattle.ckms_store_steps.specs.Sound.{sound}
 use Rattle.ckms_store.specs.declared.Inserted.{Inserted}

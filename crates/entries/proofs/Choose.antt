@@ -1,6 +1,6 @@
 -- Reasoning about what a test chose. A statement about `cond test x y` is proved from one proof for each arm, which is handed what holds there.
 -- Assumes nothing.
-use mathlib.Core.Path.{◌≡◌, refl}
+use mathlib.Core.Path.{◌≡◌}
 use Prim.Native.Nat.{ℕ, ◌≤◌, ◌<◌}
 use mathlib.Core.Bool.{Bool, true, false, not, cond, ◌&&◌}
 use lib.Dec.{T, leb, ltb, ltb→lt, nltb→le, leb→le, nleb→lt}

@@ -1,13 +1,13 @@
 -- How a list looks while its elements from pos on move up by one place, and while places are zeroed, for any kind of element.
 -- Assumes nothing.
 use mathlib.Core.Path.{◌≡◌, refl, sym, ap, ◌∙◌}
-use mathlib.Core.List.{List, [], ◌∷◌, ◌++◌, append_assoc}
+use mathlib.Core.List.{List, ◌∷◌, ◌++◌, append_assoc}
 use Prim.Native.Nat.{ℕ, zero, suc, ◌+◌, ◌-◌, ◌≤◌, ◌<◌}
 use native.Mathlib.Omega.{arith}
 use native.Mathlib.Numerals.{add-one}
-use lib.ListN.{length, get_or, set, take, drop, replicate, length-append, length-drop, length-replicate, get_or-append, take-append-drop, drop_of_length-le}
+use lib.ListN.{length, get_or, set, take, drop, replicate, length-append, length-replicate, get_or-append, take-append-drop, drop_of_length-le}
 use lib.Seq.{length-take-le, take-suc, take-take, drop-cons, set_at, get_or-take, append_snoc}
-use Rattle.entries.specs.Lists.{put_at, layout, cleared}
+use Rattle.entries.specs.Lists.{put_at, cleared}
 
 -- the elements from i on stand one place further up, and the one at i stands twice
 abbrev pub shifted : {A : Type 0} → ℕ → ℕ → List A → List A

@@ -1,6 +1,6 @@
 -- Lent lists: an element put in at a place, and the list after a call that filled and freed places.
 -- Assumes nothing: these are definitions.
-use Rattle.std.specs.Prelude.{ℕ, suc, ◌-◌, List, ◌∷◌, ◌++◌, length, take, drop, replicate}
+use Rattle.std.specs.Prelude.{ℕ, ◌-◌, List, ◌∷◌, ◌++◌, length, take, drop, replicate}
 
 -- the list with e put in at place k
 abbrev pub put_at : {A : Type 0} → ℕ → A → List A → List A

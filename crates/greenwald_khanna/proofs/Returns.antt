@@ -1,36 +1,28 @@
 -- What the public calls return meets their contracts: the answer and the list by their definitions, and with them demand 3 call by call.
 -- Assumes nothing.
 use mathlib.Core.Path.{◌≡◌, sym, ap, ◌∙◌}
-use Prim.Native.Nat.{ℕ, suc, ◌≤◌, ◌<◌}
+use Prim.Native.Nat.{ℕ, suc}
 use mathlib.Core.Bool.{true}
 use mathlib.Core.Option.{some}
 use mathlib.Core.List.{List}
-use borrow.Author.Tests.{le-leb, lt-leb}
-use lib.ListN.{length, replicate, length-map}
+use lib.ListN.{length}
 use Rattle.refusal.specs.declared.Refusal.{Refusal}
 use Rattle.fraction.specs.declared.Fraction.{Fraction}
 use Rattle.fraction.specs.Allowed.{is_phi}
 use Rattle.fraction.specs.Products.{floor_mul}
 use Rattle.greenwald_khanna_theory.specs.State.{answer_at, quantile}
 use Rattle.entries.specs.declared.Entry.{Entry}
-use Rattle.entries.specs.Entry.{zero_entry, row_of, entry_of, entries_of}
-use Rattle.entries.specs.Lists.{cleared}
 use Rattle.entries.proofs.Guards.{differ}
-use Rattle.entries.proofs.Layouts.{cleared_all}
-use Rattle.entries.proofs.Maps.{map_cleared}
 use Rattle.greenwald_khanna_steps.specs.declared.Stream.{Stream}
 use Rattle.greenwald_khanna_steps.specs.Steps.{after, Accepts, Holds}
-use Rattle.greenwald_khanna_steps.specs.Limits.{slots, slots_ok}
+use Rattle.greenwald_khanna_steps.specs.Limits.{slots_ok}
 use Rattle.greenwald_khanna_steps.specs.Sound.{sound, state_of}
-use Rattle.greenwald_khanna_steps.specs.declared.Opened.TheVariants as opening
 use Rattle.greenwald_khanna.specs.declared.Inserted.TheVariants as inserting
 use Rattle.greenwald_khanna_told.specs.declared.Answer.{Answer}
-use Rattle.greenwald_khanna_told.specs.declared.Answer.TheVariants.{Value, Refused}
-use Rattle.greenwald_khanna_steps.specs.Opening.{opened, OpenPost}
+use Rattle.greenwald_khanna_told.specs.declared.Answer.TheVariants.{Value}
 use Rattle.greenwald_khanna.specs.Answers.{inserted, inserted_list, value_of, quantiled}
 use Rattle.greenwald_khanna.specs.Posts.{InsertPost, QuantilePost}
 use Rattle.greenwald_khanna.proofs.Asking.{value_within}
-use Rattle.greenwald_khanna_steps.proofs.Fresh.{fresh_stream, opened_fresh}
 use Rattle.greenwald_khanna.proofs.Cases.{passes_taken, taken_list, passes_value}
 use Rattle.greenwald_khanna.proofs.Kept.{inserted_kept}
 

@@ -1,22 +1,19 @@
 -- What the look-up answers, of a summary that is sound and explained.
 -- Assumes nothing.
-use mathlib.Core.Path.{◌≡◌, refl, sym, ap, ◌∙◌}
-use Prim.Native.Nat.{ℕ, zero, suc, ◌+◌, ◌-◌, ◌≤◌, ◌<◌, max}
-use mathlib.Core.List.{List, [], ◌∷◌, ◌++◌}
-use mathlib.Core.Option.{Option, none, some}
+use mathlib.Core.Path.{◌≡◌, refl}
+use Prim.Native.Nat.{ℕ, ◌+◌, ◌-◌, ◌≤◌, ◌<◌, max}
+use mathlib.Core.List.{List, [], ◌∷◌}
+use mathlib.Core.Option.{some}
 use native.Mathlib.Nat.{zero-add}
 use native.Mathlib.Omega.{arith}
 use lib.ListN.{length}
-use lib.Dec.{T, ltb, leb, eqb}
-use Rattle.entries.proofs.Choose.{lt-cases, by_order}
-use Rattle.entries.specs.Ranks.{Rising, StandsAt, below, upto}
+use Rattle.entries.proofs.Choose.{lt-cases}
+use Rattle.entries.specs.Ranks.{below, upto}
 use Rattle.entries.specs.declared.Entry.{Entry}
-use Rattle.entries.specs.Entry.{entry, values, sum_g}
+use Rattle.entries.specs.Entry.{sum_g}
 use Rattle.greenwald_khanna_theory.specs.Walk.{walk, look_up}
-use Rattle.greenwald_khanna_theory.proofs.Rules.{Each, FirstExact, LastExact, Entries}
+use Rattle.greenwald_khanna_theory.proofs.Rules.{Each, Entries}
 use Rattle.greenwald_khanna_theory.proofs.Counts.{Explained, ExplainedFrom}
-use Rattle.entries.proofs.Counting.{below_le_upto, upto_le_length}
-use Rattle.entries.proofs.Sorting.{stands}
 
 -- by counting: v occurs, some rank of it is at least `low`, and some rank of it is at most `high`, or is 1
 pub record Near (X : List ℕ) (low high v : ℕ) : Type 0 where

@@ -14,11 +14,11 @@ use Rattle.entries.proofs.Counting.{upto_le_length}
 use Rattle.entries.proofs.Sorting.{stands}
 use Rattle.entries.specs.declared.Entry.{Entry}
 use Rattle.entries.specs.Entry.{values, sum_g}
-use Rattle.entries.specs.Ranks.{Rising, StandsAt, below, upto}
+use Rattle.entries.specs.Ranks.{Rising, below, upto}
 use Rattle.fraction.proofs.Tests.{phi_facts}
 use Rattle.fraction.specs.declared.Fraction.{Fraction}
 use Rattle.fraction.specs.Allowed.{is_phi}
-use Rattle.fraction.specs.Products.{floor_mul, p_of, e_of}
+use Rattle.fraction.specs.Products.{floor_mul, e_of}
 use Rattle.greenwald_khanna_theory.specs.Promises.{last_value, NeverCross, BetweenEnds, EndsAreExtremes}
 use Rattle.greenwald_khanna_theory.specs.State.{State, rank, answer_at, quantile}
 use Rattle.greenwald_khanna_theory.specs.Walk.{walk, look_up}

@@ -18,7 +18,7 @@ use Rattle.greenwald_khanna_theory.specs.Promises.{Sound, FreshSound, InsertKeep
 use Rattle.greenwald_khanna_theory.specs.State.{State, fresh, tidied, insert, rank, quantile}
 use Rattle.greenwald_khanna_theory.proofs.Bound.{Ruled, ruled_fresh, ruled_tidied, ruled_insert, counted_tidied, counted_insert, answer_within}
 use Rattle.greenwald_khanna_theory.proofs.Counts.{Explained, ExplainedFrom, Counted}
-use Rattle.greenwald_khanna_theory.proofs.Rules.{Each, Entries, entries_true, true_entries}
+use Rattle.greenwald_khanna_theory.proofs.Rules.{Each, entries_true, true_entries}
 
 -- counting and ranks
 

@@ -1,21 +1,19 @@
 -- Compressing keeps a summary sound and explained, and leaves the first entry as it is.
 -- Assumes nothing.
-use mathlib.Core.Path.{◌≡◌, refl, sym, ap, ◌∙◌}
-use Prim.Native.Nat.{ℕ, zero, suc, ◌+◌, ◌-◌, ◌≤◌, ◌<◌}
+use mathlib.Core.Path.{◌≡◌, refl}
+use Prim.Native.Nat.{ℕ, ◌+◌, ◌<◌}
 use native.Mathlib.Nat.{add_assoc}
-use mathlib.Core.Bool.{Bool, true, false, ◌&&◌}
-use mathlib.Core.List.{List, [], ◌∷◌, ◌++◌}
+use mathlib.Core.List.{List, [], ◌∷◌}
 use native.Mathlib.Omega.{arith}
-use lib.ListN.{length}
-use lib.Dec.{T, ltb, leb}
+use lib.Dec.{leb}
 use Rattle.entries.proofs.Choose.{both-cases}
 use Rattle.fraction.specs.Band.{band}
-use Rattle.entries.specs.Ranks.{Rising, below, upto}
+use Rattle.entries.specs.Ranks.{Rising}
 use Rattle.entries.specs.declared.Entry.{Entry}
 use Rattle.entries.specs.Entry.{entry, values, sum_g}
 use Rattle.greenwald_khanna_theory.specs.Summary.{mergeable, step, merged, compress}
-use Rattle.greenwald_khanna_theory.proofs.Rules.{Each, FirstExact, LastExact, Entries}
-use Rattle.greenwald_khanna_theory.proofs.Counts.{Explained, ExplainedFrom}
+use Rattle.greenwald_khanna_theory.proofs.Rules.{Each, LastExact, Entries}
+use Rattle.greenwald_khanna_theory.proofs.Counts.{ExplainedFrom}
 
 -- To show something of `step p e (nx ∷ ns)`: show it of the merged entry, where g + g' + delta' < p, and of the two as they stand.
 pub step_cases : (P : List Entry → Type 0) (p : ℕ) (e nx : Entry) (ns : List Entry)

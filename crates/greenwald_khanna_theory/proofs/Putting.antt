@@ -2,21 +2,21 @@
 -- `put` does in one walk what `put_in` does by place, `take` and `drop`; the facts are shown of `put`, by recursion.
 -- Assumes nothing.
 use mathlib.Core.Path.{◌≡◌, refl, sym, ap, ◌∙◌}
-use Prim.Native.Nat.{ℕ, zero, suc, ◌+◌, ◌-◌, ◌≤◌, ◌<◌}
+use Prim.Native.Nat.{ℕ, suc, ◌+◌, ◌≤◌, ◌<◌}
 use mathlib.Core.Bool.{Bool, true, false, cond, ◌||◌}
 use mathlib.Core.List.{List, [], ◌∷◌, ◌++◌}
 use native.Mathlib.Omega.{arith}
 use lib.ListN.{length, take, drop}
-use lib.Dec.{T, ltb, leb, eqb, eqb-zero-suc, eqb-suc-zero, eqb-suc-suc}
+use lib.Dec.{ltb, eqb, eqb-zero-suc, eqb-suc-zero, eqb-suc-suc}
 use Rattle.entries.proofs.Choose.{lt-cases}
-use Rattle.entries.specs.Ranks.{Rising, below, upto}
+use Rattle.entries.specs.Ranks.{Rising, upto}
 use Rattle.entries.specs.declared.Entry.{Entry}
 use Rattle.entries.specs.Entry.{entry, values, sum_g}
 use Rattle.entries.specs.Place.{place}
 use Rattle.greenwald_khanna_theory.specs.Summary.{new_delta, put_in}
 use Rattle.greenwald_khanna_theory.proofs.Rules.{Each, FirstExact, LastExact, Entries}
-use Rattle.greenwald_khanna_theory.proofs.Counts.{Explained, ExplainedFrom}
-use Rattle.entries.proofs.Counting.{is_below, is_upto, below_one, below_none, upto_one, upto_none, below_le_upto, upto_le_length, upto_le_below, upto_mono, below_more, upto_more}
+use Rattle.greenwald_khanna_theory.proofs.Counts.{ExplainedFrom}
+use Rattle.entries.proofs.Counting.{below_one, below_none, upto_one, below_le_upto, upto_le_length, upto_le_below, upto_mono, below_more, upto_more}
 
 -- d is the delta of a new entry in front of the list, p that of one further on but not at the end
 unfoldable pub put : ℕ → ℕ → ℕ → List Entry → List Entry

@@ -1,10 +1,10 @@
 -- The Rust's loop is the right fold: `sweep p (held - 2) es` is `compress p es`.
 -- Assumes nothing.
-use mathlib.Core.Path.{◌≡◌, refl, sym, ap, ap₂, ◌∙◌}
-use Prim.Native.Nat.{ℕ, zero, suc, ◌+◌, ◌-◌, ◌≤◌, ◌<◌}
+use mathlib.Core.Path.{◌≡◌, refl, ap, ◌∙◌}
+use Prim.Native.Nat.{ℕ, zero, suc, ◌-◌, ◌<◌}
 use mathlib.Core.List.{List, [], ◌∷◌, ◌++◌}
 use native.Mathlib.Omega.{arith}
-use lib.ListN.{length, get_or, take, drop, get_or-append, take-append-drop}
+use lib.ListN.{length, get_or, take, drop, get_or-append}
 use lib.Seq.{take-append-le, drop_at, length-take-le, take-take, get_or-take, drop-cons}
 use Rattle.entries.specs.declared.Entry.{Entry}
 use Rattle.entries.specs.Entry.{zero_entry}

@@ -7,7 +7,7 @@ use Rattle.histogram_rows.specs.declared.Bound.{Bound}
 use Rattle.histogram_rows.specs.Bins.{bins_between}
 use Rattle.histogram_steps.specs.declared.Histogram.{Histogram}
 use Rattle.histogram_steps.specs.declared.Standing.{Standing}
-use Rattle.histogram_steps.specs.Standing.{standing, left}
+use Rattle.histogram_steps.specs.Standing.{left}
 use Rattle.histogram_steps.proofs.Standings.{Ready}
 use Rattle.histogram.specs.Answers.{bins_answer}
 

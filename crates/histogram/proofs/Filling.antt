@@ -9,7 +9,7 @@ use borrow.Author.Tests.{eqb-true, eqb-false, lt-ltb}
 use lib.Dec.{eqb}
 use lib.ListN.{length, get_or, set, take, replicate, length-append, length-set, length-replicate}
 use lib.Seq.{get_or-set_same, get_or-set_other, append_snoc}
-use Rattle.entries.specs.Ranks.{Rising, below, upto, Member}
+use Rattle.entries.specs.Ranks.{Rising, upto, Member}
 use Rattle.entries.specs.Total.{total}
 use Rattle.entries.proofs.Choose.{by_order}
 use Rattle.entries.proofs.Counting.{is_below, is_upto, below_one, below_none, upto_one, upto_none, upto_more, upto_le_below, below_mono}

@@ -15,7 +15,7 @@ use Rattle.greenwald_khanna_steps.specs.declared.Opened.TheVariants as opening
 use Rattle.greenwald_khanna.specs.declared.Inserted.{Inserted}
 use Rattle.greenwald_khanna.specs.declared.Inserted.TheVariants as inserting
 use Rattle.greenwald_khanna_told.specs.declared.Answer.{Answer}
-use Rattle.greenwald_khanna_told.specs.declared.Answer.TheVariants.{Value, Refused}
+use Rattle.greenwald_khanna_told.specs.declared.Answer.TheVariants.{Value}
 use Rattle.greenwald_khanna_steps.specs.Opening.{opened, opened_list}
 use Rattle.greenwald_khanna.specs.Answers.{inserted, inserted_list, quantiled}
 

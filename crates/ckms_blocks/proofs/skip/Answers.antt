@@ -1,6 +1,5 @@
 -- `ckms_blocks::skip` meets its contract: the blocks before `block` were skipped.
 -- Assumes nothing.
-use Prim.Native.Nat.{◌-◌}
 use native.Mathlib.Omega.{arith}
 use Rattle.ckms_blocks.proofs.Skips.{search_none, search_here, search_last, search_on}
 use Rattle.ckms_blocks.proofs.skip.Goals as goal

@@ -1,6 +1,5 @@
 -- `entries::sum_g` meets its contract: the g of the first i rows are added up.
 -- Assumes nothing.
-use Prim.Native.Nat.{◌-◌}
 use native.Mathlib.Omega.{arith}
 use lib.ListN.{length-map}
 use Rattle.entries.specs.Entry.{entry_of, entries_of}

@@ -1,7 +1,6 @@
 -- `entries_face::clear` meets its contract: the first i entries are zero after i turns.
 -- Assumes nothing.
 use mathlib.Core.Path.{◌≡◌}
-use Prim.Native.Nat.{◌-◌}
 use native.Mathlib.Omega.{arith}
 use borrow.Author.Rules.{rules}
 use Rattle.entries.specs.Entry.{zero_entry}

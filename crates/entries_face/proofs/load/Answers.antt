@@ -1,7 +1,6 @@
 -- `entries_face::load` meets its contract: the first i rows are those of the first i entries after i turns.
 -- Assumes nothing.
 use mathlib.Core.Path.{◌≡◌, ap, ◌∙◌}
-use Prim.Native.Nat.{◌-◌}
 use native.Mathlib.Omega.{arith}
 use lib.ListN.{take}
 use Rattle.entries.specs.Entry.{entries_of}

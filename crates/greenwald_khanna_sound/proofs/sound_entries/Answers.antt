@@ -1,7 +1,6 @@
 -- `greenwald_khanna_sound::sound_entries` meets its contract: before the row i the rules not seen yet say what all of them say.
 -- Assumes nothing.
 use mathlib.Core.Path.{sym, ◌∙◌}
-use Prim.Native.Nat.{◌-◌}
 use native.Mathlib.Omega.{arith}
 use Rattle.greenwald_khanna_sound.proofs.Soundness.{ends_wrong, begin, thin, large, go, finish}
 use Rattle.greenwald_khanna_sound.proofs.sound_entries.Goals as goal

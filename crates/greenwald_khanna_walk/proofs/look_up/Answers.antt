@@ -1,6 +1,5 @@
 -- `greenwald_khanna_walk::look_up` meets its contract: before the row i the walk from there gives what the whole gives.
 -- Assumes nothing.
-use Prim.Native.Nat.{◌-◌}
 use native.Mathlib.Omega.{arith}
 use Rattle.greenwald_khanna_walk.proofs.Walks.{begin, stop, go, finish}
 use Rattle.greenwald_khanna_walk.proofs.look_up.Goals as goal

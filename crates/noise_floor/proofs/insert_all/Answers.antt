@@ -1,6 +1,5 @@
 -- `noise_floor::insert_all` meets its contract: the run of what is left, from where the loop stands, is the whole run.
 -- Assumes nothing.
-use Prim.Native.Nat.{◌-◌}
 use native.Mathlib.Omega.{arith}
 use borrow.Author.Rules.{rules}
 use Rattle.entries.specs.Entry.{entries_of}

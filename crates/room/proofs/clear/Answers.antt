@@ -1,6 +1,5 @@
 -- `room::clear` meets its contract: the places up to i are zeroed after i turns.
 -- Assumes nothing.
-use Prim.Native.Nat.{◌-◌}
 use native.Mathlib.Omega.{arith}
 use lib.ListN.{length-set}
 use Rattle.entries.specs.Entry.{row_of, zero_entry}

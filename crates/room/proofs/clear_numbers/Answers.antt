@@ -1,6 +1,5 @@
 -- `room::clear_numbers` meets its contract: the places up to i are zeroed after i turns.
 -- Assumes nothing.
-use Prim.Native.Nat.{◌-◌}
 use native.Mathlib.Omega.{arith}
 use lib.ListN.{length-set}
 use Rattle.entries.proofs.Rooms.{cleared_turn}

@@ -1,6 +1,5 @@
 -- `room::insert_at` meets its contract: what stands from i on has moved up by one place.
 -- Assumes nothing.
-use Prim.Native.Nat.{◌-◌}
 use native.Mathlib.Omega.{arith}
 use mathlib.Core.List.{[]}
 use lib.ListN.{length-set}

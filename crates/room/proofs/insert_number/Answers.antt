@@ -1,6 +1,5 @@
 -- `room::insert_number` meets its contract: what stands from i on has moved up by one place.
 -- Assumes nothing.
-use Prim.Native.Nat.{◌-◌}
 use native.Mathlib.Omega.{arith}
 use lib.ListN.{length-set}
 use Rattle.entries.proofs.Rooms.{shifted_turn, shifted_done}

@@ -1,6 +1,5 @@
 -- `scan_insert::insert_all` meets its contract: inserting what is left, from where the loop stands, comes to the same end.
 -- Assumes nothing.
-use Prim.Native.Nat.{◌-◌}
 use native.Mathlib.Omega.{arith}
 use borrow.Author.Rules.{rules}
 use Rattle.entries.specs.Entry.{entries_of}

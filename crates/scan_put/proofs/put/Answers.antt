@@ -1,6 +1,6 @@
 -- `scan_put::put` meets its contract: after i bytes the text so far stands behind the first `at`, and the rest is untouched.
 -- Assumes nothing.
-use Prim.Native.Nat.{◌+◌, ◌-◌}
+use Prim.Native.Nat.{◌+◌}
 use native.Mathlib.Omega.{arith}
 use lib.ListN.{get_or, length-set}
 use Rattle.scan_put.proofs.Texts.{put_more, rest_more}

@@ -1,7 +1,6 @@
 -- `scan_write::write_fractions` meets its contract: after i turns the lines of the first i fractions stand in the text.
 -- Assumes nothing.
 use mathlib.Core.Path.{refl}
-use Prim.Native.Nat.{◌-◌}
 use native.Mathlib.Omega.{arith}
 use borrow.Author.Rules.{rules}
 use Rattle.entries.specs.Entry.{entries_of}

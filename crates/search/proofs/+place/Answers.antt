@@ -1,7 +1,7 @@
 -- `search::place` meets its contract: the list is shorter at each call, and the place lies in the half that is searched.
 -- Assumes nothing.
 use native.Mathlib.Omega.{arith}
-use mathlib.Core.Path.{sym, ap, ◌∙◌}
+use mathlib.Core.Path.{ap, ◌∙◌}
 use lib.ListN.{length, length-drop}
 use lib.Seq.{length-take-le}
 use Prim.Native.Nat.{ℕ, ◌+◌, ◌/◌}

@@ -1,6 +1,5 @@
 -- `search::scan` meets its contract: the places before i are passed.
 -- Assumes nothing.
-use Prim.Native.Nat.{◌-◌}
 use native.Mathlib.Omega.{arith}
 use Rattle.entries.specs.Entry.{entries_of, values}
 use Rattle.entries.proofs.Maps.{value_at, length_values}

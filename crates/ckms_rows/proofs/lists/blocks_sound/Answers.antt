@@ -1,6 +1,5 @@
 -- `ckms_rows::lists::blocks_sound` meets its contract: what is left to test decides as the whole does.
 -- Assumes nothing.
-use Prim.Native.Nat.{◌-◌}
 use native.Mathlib.Omega.{arith}
 use Rattle.ckms_theory.specs.Lists.{blocks_sound}
 use Rattle.ckms_rows.proofs.Sounds.{blocks_done, blocks_none, blocks_large, blocks_go}

@@ -1,6 +1,5 @@
 -- `ckms_rows::lists::entries_sound` meets its contract: what is left to test decides as the whole does.
 -- Assumes nothing.
-use Prim.Native.Nat.{◌-◌}
 use native.Mathlib.Omega.{arith}
 use Rattle.entries.specs.Entry.{entries_of}
 use Rattle.ckms_theory.specs.Lists.{entries_sound}

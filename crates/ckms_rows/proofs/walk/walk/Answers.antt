@@ -1,7 +1,7 @@
 -- `ckms_rows::walk::walk` meets its contract: the walk from i on answers as the whole does.
 -- Assumes nothing.
 use mathlib.Core.List.{[]}
-use Prim.Native.Nat.{◌+◌, ◌-◌}
+use Prim.Native.Nat.{◌+◌}
 use native.Mathlib.Omega.{arith}
 use lib.ListN.{get_or}
 use Rattle.ckms_rows.proofs.Walks.{walk_none, rank_small, walk_stop, walk_more, walk_end}

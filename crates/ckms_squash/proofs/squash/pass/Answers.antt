@@ -1,7 +1,6 @@
 -- `ckms_squash::squash::pass` meets its contract: the steps so far are a pass up to i.
 -- Assumes nothing.
 use mathlib.Core.Path.{◌≡◌, ◌∙◌}
-use Prim.Native.Nat.{◌-◌}
 use native.Mathlib.Omega.{arith}
 use borrow.Author.Rules.{rules}
 use lib.ListN.{length, length-map}

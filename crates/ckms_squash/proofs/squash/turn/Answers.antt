@@ -1,7 +1,6 @@
 -- `ckms_squash::squash::turn` meets its contract: each arm of the test is one arm of the definition.
 -- Assumes nothing.
 use mathlib.Core.Path.{sym, ◌∙◌}
-use Prim.Native.Nat.{◌-◌}
 use Rattle.ckms_squash.proofs.Turns.{turn_merged, turn_kept}
 use Rattle.ckms_squash.proofs.squash.turn.Goals as goal
 

@@ -4,7 +4,6 @@ use mathlib.Core.Path.{sym, ap, ◌∙◌}
 use Prim.Native.Nat.{ℕ, ◌%◌}
 use native.Mathlib.Omega.{arith}
 use Rattle.entries.specs.Entry.{entries_of}
-use Rattle.fraction.specs.Products.{period}
 use Rattle.fraction.proofs.Laws.{period_pos}
 use Rattle.greenwald_khanna_steps.proofs.Halves.{grown_fits, insert_grown, insert_tidied}
 use Rattle.greenwald_khanna_steps.proofs.Sounds.{sound_facts, accepts_room}

@@ -1,6 +1,5 @@
 -- `histogram_rows::counts::total` meets its contract: the first i counts are added up.
 -- Assumes nothing.
-use Prim.Native.Nat.{◌-◌}
 use native.Mathlib.Omega.{arith}
 use Rattle.entries.proofs.Totals.{total_more}
 use Rattle.histogram_rows.proofs.counts.total.Goals as goal
