@@ -1,10 +1,11 @@
 -- The words of a CKMS are read as that CKMS again.
 -- Assumes nothing.
 use mathlib.Core.Path.{◌≡◌}
+use Prim.Native.Nat.{ℕ}
 use mathlib.Core.Bool.{true}
+use Rattle.std.specs.Prelude.{Option, Some, None}
+use Rattle.mean.specs.declared.Mean.{Mean}
 use Rattle.ckms_steps.specs.declared.CKMS.{CKMS}
-use Rattle.ckms_steps.specs.declared.Last.{Last}
-use Rattle.ckms_steps.specs.declared.Cma.{Cma}
 use Rattle.ckms_words.specs.Ckmses as ckms
 use Rattle.ckms_words.proofs.Fitting.{narrow_holds}
 use Rattle.ckms_answer_words.specs.CkmsAnswers as answers
@@ -14,11 +15,11 @@ pub ckms_back : CkmsBack
 unfolding CkmsBack
 ckms_back c h = go c.last_in c.cma (narrow_holds (answers.words_of c) h)
   where
-    with : Last → Cma → CKMS
+    with : Option ℕ → Option Mean → CKMS
     with x m = record { error = c.error; n = c.n; held = c.held; blocks = c.blocks; inserts = c.inserts; last_in = x; cma = m }
 
-    go : (x : Last) (m : Cma) → ckms.narrow (answers.words_of (with x m)) ≡ true → ckms.ckms_of (answers.words_of (with x m)) ≡ with x m
-    go Last.Nothing Cma.Nothing t = rw t
-    go Last.Nothing (Cma.Value m) t = rw t
-    go (Last.Value v) Cma.Nothing t = rw t
-    go (Last.Value v) (Cma.Value m) t = rw t
+    go : (x : Option ℕ) (m : Option Mean) → ckms.narrow (answers.words_of (with x m)) ≡ true → ckms.ckms_of (answers.words_of (with x m)) ≡ with x m
+    go None None t = rw t
+    go None (Some m) t = rw t
+    go (Some v) None t = rw t
+    go (Some v) (Some m) t = rw t

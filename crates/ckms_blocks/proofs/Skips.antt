@@ -6,7 +6,7 @@ use Prim.Native.Nat.{ℕ, zero, suc, ◌+◌, ◌-◌, ◌≤◌, ◌<◌}
 use native.Mathlib.Omega.{arith}
 use native.Mathlib.Numerals.{add-one}
 use borrow.Author.Tests.{lt-ltb, le-ltb}
-use lib.ListN.{length, get_or, take, drop, length-take, length-drop, length-map, drop_of_length-le}
+use lib.ListN.{length, get_or, take, drop, length-drop, length-map, drop_of_length-le}
 use lib.Seq.{drop-cons, drop-drop, get_or-drop}
 use Rattle.entries.specs.declared.Entry.{Entry}
 use Rattle.entries.specs.Entry.{entry_of, entries_of, values, sum_g}
@@ -132,16 +132,17 @@ module _ (x : ℕ) (es : List Entry) (ls : List ℕ) (w : InBlocks es ls) where
             low = omega (arith, z.low, sum_cut (drop (start + a) es) b, ap sum_g k);
           }
 
--- the same on rows, with the sums as the code has them
-pub record Searching (x : ℕ) (rows : List (List ℕ)) (ls : List ℕ) (block start sum : ℕ) : Type 0 where
-  pub inside : block < length ls
-  pub pos : 1 ≤ get_or ls block 0
-  pub fits : start + get_or ls block 0 ≤ length rows
-  pub low : sum ≤ 1000000000
-  pub so_far : Skipping x (entries_of rows) ls block start sum
+-- the same on rows, as the code has it
+pub record Searching (x : ℕ) (rows : List (List ℕ)) (ls : List ℕ) (at : Start) : Type 0 where
+  pub inside : at.block < length ls
+  pub pos : 1 ≤ get_or ls at.block 0
+  pub fits : at.start + get_or ls at.block 0 ≤ length rows
+  pub low : at.sum ≤ 1000000000
+  pub so_far : Skipping x (entries_of rows) ls at.block at.start at.sum
 
 module _ (x : ℕ) (rows : List (List ℕ)) (ls : List ℕ) (w : InBlocks (entries_of rows) ls) where
-  searching : (block start sum : ℕ) → Skipping x (entries_of rows) ls block start sum → Searching x rows ls block start sum
+  searching : (block start sum : ℕ) → Skipping x (entries_of rows) ls block start sum
+      → Searching x rows ls record { block = block; start = start; sum = sum }
   searching block start sum z = record {
     inside = z.inside;
     pos = length_pos x (entries_of rows) ls w block start sum z;
@@ -150,40 +151,35 @@ module _ (x : ℕ) (rows : List (List ℕ)) (ls : List ℕ) (w : InBlocks (entri
     so_far = z;
   }
 
-  pub search_none : 0 < length ls → Searching x rows ls 0 0 0
+  pub search_none : 0 < length ls → Searching x rows ls record { block = 0; start = 0; sum = 0 }
   search_none h = searching 0 0 0 (skip_none x (entries_of rows) ls w h)
 
-  -- the code's own numbers: a is the length of this block, and b that of the next
-  module _ (block start sum a : ℕ) (s : Searching x rows ls block start sum) (p : a ≡ get_or ls block 0) where
-    pub search_here : block + 1 < length ls → x ≤ (entry_at rows (start + a - 1)).v
-        → Skipped x (entries_of rows) ls record { block = block; start = start; sum = sum }
+  module _ (next : ℕ) (at : Start) (e : next ≡ at.block + 1) (s : Searching x rows ls at) where
+    -- how far the block goes
+    abbrev end : ℕ
+    end = at.start + get_or ls (next - 1) 0
+
+    here : get_or ls (next - 1) 0 ≡ get_or ls at.block 0
+    here = let q : next - 1 ≡ at.block = omega arith in ap (λ (k : ℕ). get_or ls k 0) q
+
+    pub search_here : next < length ls → x ≤ (entry_at rows (end - 1)).v → Skipped x (entries_of rows) ls at
     search_here h g =
-        stop_here x (entries_of rows) ls w block start sum s.so_far (omega arith) (rw (← p) (omega (arith, value_at rows (start + a - 1))))
+        stop_here x (entries_of rows) ls w at.block at.start at.sum s.so_far (omega arith) (rw (← here) (omega (arith, value_at rows (end - 1))))
 
-    module _ (b : ℕ) (q : b ≡ get_or ls (block + 1) 0) (h : block + 1 < length ls) (g : (entry_at rows (start + a - 1)).v < x) where
-      -- the next block's rows, as they are cut out
-      abbrev part : List (List ℕ)
-      part = take (start + a + b - (start + a)) (drop (start + a) rows)
+    -- the next block's g-sum is counted, and the search goes on behind this block
+    pub search_on : next < length ls → (entry_at rows (end - 1)).v < x → (n : ℕ)
+        → n ≡ sum_g (entries_of (take (end + get_or ls next 0 - end) (drop end rows))) → Searching x rows ls record { block = next; start = end; sum = at.sum + n }
+    search_on h g n f =
+        let b : ℕ = get_or ls next 0 in
+        let k : end + b - end ≡ b = omega arith in
+        let m : next ≡ suc at.block = omega arith in
+        let t : n ≡ sum_g (take b (drop end (entries_of rows))) = rw (k, part_entries rows end b) at f in
+        rw (t, here, m)
+        (searching (suc at.block) (at.start + get_or ls at.block 0) (at.sum + sum_g (take (get_or ls (suc at.block) 0) (drop (at.start + get_or ls at.block 0) (entries_of rows))))
+        (go_on x (entries_of rows) ls w at.block at.start at.sum s.so_far (omega arith) (rw (← here) (omega (arith, value_at rows (end - 1))))))
 
-      -- its g-sum is counted, and the search goes on behind this block
-      pub search_on : (n : ℕ) → n ≡ sum_g (entries_of part) → Searching x rows ls (block + 1) (start + a) (sum + n)
-      search_on n e =
-          let k : start + a + b - (start + a) ≡ b = omega arith in
-          let f : n ≡ sum_g (take b (drop (start + a) (entries_of rows))) = rw (k, part_entries rows (start + a) b) at e in
-          let t : ℕ = sum_g (take (get_or ls (suc block) 0) (drop (start + get_or ls block 0) (entries_of rows))) in
-          rw (add-one block, f, rw (add-one block) at q, p)
-          (searching (suc block) (start + get_or ls block 0) (sum + t)
-          (go_on x (entries_of rows) ls w block start sum s.so_far (omega arith) (rw (← p) (omega (arith, value_at rows (start + a - 1))))))
-
-      pub next_fits : start + a + b ≤ length rows
-      next_fits = omega (arith, (search_on (sum_g (entries_of part)) refl).fits)
-
-      pub next_few : length part ≤ 65536
-      next_few = omega (arith, length-take (start + a + b - (start + a)) (drop (start + a) rows), next_fits, w.few, length-map rows entry_of)
-
-  pub search_last : (block start sum : ℕ) → Searching x rows ls block start sum → length ls ≤ block + 1
-      → Skipped x (entries_of rows) ls record { block = block; start = start; sum = sum }
-  search_last block start sum s h = stop_last x (entries_of rows) ls w block start sum s.so_far (omega arith)
+    pub search_last : length ls ≤ next → Skipped x (entries_of rows) ls at
+    search_last h = stop_last x (entries_of rows) ls w at.block at.start at.sum s.so_far (omega arith)
 
 -- an empty store has no block
 pub seek_none : (x : ℕ) (es : List Entry) (ls : List ℕ) → InBlocks es ls → length ls < 1 → Sought x es ls record { block = 0; place = 0; rank = 0 }
@@ -192,14 +188,13 @@ seek_none x [] [] w h = record { found = refl; place = refl; rank = refl }
 seek_none x (e ∷ es) [] w h = absurd (omega (arith, w.all))
 seek_none x es (a ∷ ls) w h = absurd (omega arith)
 
--- in the block that was found, of `len` entries, the smaller ones are counted: n. The numbers stay small
-pub seek_found : (x : ℕ) (rows : List (List ℕ)) (ls : List ℕ) (s : Start) (len n : ℕ) → InBlocks (entries_of rows) ls → Skipped x (entries_of rows) ls s
-    → len ≡ get_or ls s.block 0
-    → n ≡ below (values (entries_of (take (s.start + len - s.start) (drop s.start rows)))) x
+-- in the block that was found the smaller ones are counted: n. The numbers stay small
+pub seek_found : (x : ℕ) (rows : List (List ℕ)) (ls : List ℕ) (s : Start) (n : ℕ) → InBlocks (entries_of rows) ls → Skipped x (entries_of rows) ls s
+    → n ≡ below (values (entries_of (take (s.start + get_or ls s.block 0 - s.start) (drop s.start rows)))) x
     → Sought x (entries_of rows) ls record { block = s.block; place = s.start + n; rank = s.sum + n }
     × (s.start + n ≤ 4096) × (s.sum + n ≤ 1000004096)
-seek_found x rows ls s len n w z l e =
-    let q : s.start + len - s.start ≡ get_or ls s.block 0 = omega arith in
+seek_found x rows ls s n w z e =
+    let q : s.start + get_or ls s.block 0 - s.start ≡ get_or ls s.block 0 = omega arith in
     let f : n ≡ below (values (take (get_or ls s.block 0) (drop s.start (entries_of rows)))) x =
     rw (q, part_entries rows s.start (get_or ls s.block 0)) at e in
     let m : s.start + n ≤ 4096 =

@@ -14,12 +14,9 @@ ghost use Rattle.ckms_c.specs.Posts.{CkmsOpenPost, CkmsInsertPost};
 ghost use Rattle.ckms_c.specs.Promises.{Promises};
 
 use ckms::CKMS;
-use ckms_answer_words::{
-    CkmsAnswer, ErrorAnswer, LastAnswer, MeanAnswer, counted, inserted, opened, told_error,
-    told_last, told_mean,
-};
+use ckms_answer_words::{CkmsAnswer, ErrorAnswer, LastAnswer, MeanAnswer};
 use ckms_words::CkmsWords;
-use store_words::{RankedAnswer, ranked};
+use store_words::RankedAnswer;
 use words::{Number, Ratio};
 
 // A fresh CKMS. Refused: SLOTS, EPSILON.
@@ -31,7 +28,7 @@ pub extern "C" fn stelo_ckms_open(
 ) -> CkmsAnswer
     ensures { CkmsOpenPost error (entries_of list.old) blocks.old result (entries_of list.new) blocks.new }
 {
-    opened(CKMS::open(error.fraction(), list, blocks))
+    CkmsAnswer::opened(CKMS::open(error.into(), list, blocks))
 }
 
 // One observation more. Refused: SLOTS, DAMAGED, COUNT, FULL.
@@ -44,7 +41,7 @@ pub extern "C" fn stelo_ckms_insert(
 ) -> CkmsAnswer
     ensures { CkmsInsertPost ckms (entries_of list.old) blocks.old v result (entries_of list.new) blocks.new }
 {
-    inserted(ckms::insert(ckms.ckms(), list, blocks, v), ckms)
+    CkmsAnswer::new(ckms::insert(CKMS::from(ckms), list, blocks, v), ckms)
 }
 
 // The rank and the value at q. Refused: SLOTS, DAMAGED, PHI, EMPTY.
@@ -57,7 +54,7 @@ pub extern "C" fn stelo_ckms_query(
 ) -> RankedAnswer
     ensures { result ≡ flat_ranked (queried (ckms_of ckms) (entries_of list.now) blocks.now (fraction_of q)) }
 {
-    ranked(ckms::query(ckms.ckms(), list, blocks, q.fraction()))
+    RankedAnswer::from(ckms::query(CKMS::from(ckms), list, blocks, q.into()))
 }
 
 // How many observations were accepted. Refused: SLOTS, DAMAGED.
@@ -65,7 +62,7 @@ pub extern "C" fn stelo_ckms_query(
 pub extern "C" fn stelo_ckms_count(ckms: CkmsWords, list: &[[u32; 3]], blocks: &[u32]) -> Number
     ensures { result ≡ flat_counted (count_of (ckms_of ckms) (entries_of list.now) blocks.now) }
 {
-    counted(ckms::count(ckms.ckms(), list, blocks))
+    Number::from(ckms::count(CKMS::from(ckms), list, blocks))
 }
 
 // The observation accepted last. Refused: SLOTS, DAMAGED.
@@ -73,7 +70,7 @@ pub extern "C" fn stelo_ckms_count(ckms: CkmsWords, list: &[[u32; 3]], blocks: &
 pub extern "C" fn stelo_ckms_last(ckms: CkmsWords, list: &[[u32; 3]], blocks: &[u32]) -> LastAnswer
     ensures { result ≡ flat_last (last_of (ckms_of ckms) (entries_of list.now) blocks.now) }
 {
-    told_last(ckms::last(ckms.ckms(), list, blocks))
+    LastAnswer::from(ckms::last(CKMS::from(ckms), list, blocks))
 }
 
 // The running mean. Refused: SLOTS, DAMAGED.
@@ -81,7 +78,7 @@ pub extern "C" fn stelo_ckms_last(ckms: CkmsWords, list: &[[u32; 3]], blocks: &[
 pub extern "C" fn stelo_ckms_cma(ckms: CkmsWords, list: &[[u32; 3]], blocks: &[u32]) -> MeanAnswer
     ensures { result ≡ flat_average (cma_of (ckms_of ckms) (entries_of list.now) blocks.now) }
 {
-    told_mean(ckms::cma(ckms.ckms(), list, blocks))
+    MeanAnswer::from(ckms::cma(CKMS::from(ckms), list, blocks))
 }
 
 // The error as opened, not reduced. Refused: SLOTS, DAMAGED.
@@ -93,7 +90,7 @@ pub extern "C" fn stelo_ckms_error_bound(
 ) -> ErrorAnswer
     ensures { result ≡ flat_error (error_of (ckms_of ckms) (entries_of list.now) blocks.now) }
 {
-    told_error(ckms::error_bound(ckms.ckms(), list, blocks))
+    ErrorAnswer::from(ckms::error_bound(CKMS::from(ckms), list, blocks))
 }
 
 // The theorems about the definitions: the crate is not proved unless each of them is.

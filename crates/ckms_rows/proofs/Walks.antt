@@ -1,59 +1,49 @@
 -- The walk of a query, turn by turn. Assumes nothing.
-use mathlib.Core.Path.{◌≡◌, refl, ap, ◌∙◌}
+use mathlib.Core.Path.{◌≡◌, refl}
 use mathlib.Core.List.{List, [], ◌∷◌}
 use Prim.Native.Nat.{ℕ, suc, ◌+◌, ◌-◌, ◌*◌, ◌≤◌, ◌<◌}
 use native.Mathlib.Omega.{arith}
 use native.Mathlib.Numerals.{add-one}
 use borrow.Author.Tests.{lt-ltb, le-ltb}
-use lib.ListN.{length, drop, length-map}
+use lib.ListN.{length, take, drop, length-map}
+use lib.Seq.{take-length}
 use Rattle.entries.specs.Entry.{entry_of, entries_of, sum_g}
 use Rattle.entries.proofs.Parts.{entry_at, entries_from, entries_end}
 use Rattle.ckms_theory.specs.Walk.{ranked, last_rank, walk, look_up}
 
--- the walk at place i: the rank is the sum of the g before it
-pub record Walking (scale limit : ℕ) (rows : List (List ℕ)) (i rank : ℕ) : Type 0 where
-  pub some : 0 < i
-  pub inside : i ≤ length rows
-  pub summed : rank + sum_g (drop i (entries_of rows)) ≡ sum_g (entries_of rows)
-  pub same : walk scale limit (length rows) rank (entry_at rows (i - 1)).v (drop i (entries_of rows)) ≡ look_up scale limit (entries_of rows)
+-- the walk before place i of the rows behind the first: the rank is the sum of the g so far, and v the value before
+pub record Walking (scale limit : ℕ) (rows behind : List (List ℕ)) (i rank v : ℕ) : Type 0 where
+  pub summed : rank + sum_g (drop i (entries_of behind)) ≡ sum_g (entries_of rows)
+  pub same : walk scale limit (length rows) rank v (drop i (entries_of behind)) ≡ look_up scale limit (entries_of rows)
 
-module _ (scale limit : ℕ) (rows : List (List ℕ)) where
-  pub walk_none : 0 < length rows → Walking scale limit rows 1 (entry_at rows 0).g
-  unfolding look_up
-  walk_none h = record { some = omega arith; inside = h; summed = go rows h; same = same rows h }
-    where
-      go : (l : List (List ℕ)) → 0 < length l → (entry_at l 0).g + sum_g (drop 1 (entries_of l)) ≡ sum_g (entries_of l)
-      go [] h = absurd (omega arith)
-      go (x ∷ l) h = refl
+pub walk_none : (scale limit : ℕ) (rows : List (List ℕ)) → 0 < length rows
+    → Walking scale limit rows (take (length rows - 1) (drop 1 rows)) 0 (entry_at rows 0).g (entry_at rows 0).v
+unfolding look_up
+walk_none scale limit [] h = absurd (omega arith)
+walk_none scale limit (row ∷ rows) h =
+    let q : suc (length rows) - 1 ≡ length rows = omega arith in
+    rw (q, take-length rows) record { summed = refl; same = rw (length-map rows entry_of) }
 
-      same : (l : List (List ℕ)) → 0 < length l
-          → walk scale limit (length l) (entry_at l 0).g (entry_at l (1 - 1)).v (drop 1 (entries_of l)) ≡ look_up scale limit (entries_of l)
-      same [] h = absurd (omega arith)
-      same (x ∷ l) h = rw (length-map l entry_of)
+module _ (scale limit : ℕ) (rows behind : List (List ℕ)) (i rank v : ℕ) (z : Walking scale limit rows behind i rank v) where
+  pub rank_small : rank ≤ sum_g (entries_of rows)
+  rank_small = omega (arith, z.summed)
 
-  module _ (i rank : ℕ) (z : Walking scale limit rows i rank) where
-    pub rank_small : rank ≤ sum_g (entries_of rows)
-    rank_small = omega (arith, z.summed)
+  pub walk_end : length behind ≤ i → ranked (last_rank (length rows) rank) v ≡ look_up scale limit (entries_of rows)
+  unfolding walk
+  walk_end h = rw (entries_end behind i h) at z.same
 
-    pub walk_end : length rows ≤ i → ranked (last_rank i rank) (entry_at rows (i - 1)).v ≡ look_up scale limit (entries_of rows)
+  module _ (h : i < length behind) where
+    pub walk_stop : limit < scale * (rank + (entry_at behind i).g + (entry_at behind i).delta) → ranked rank v ≡ look_up scale limit (entries_of rows)
     unfolding walk
-    walk_end h =
-        let e : i ≡ length rows = omega (arith, z.inside) in
-        ap (λ (k : ℕ). ranked (last_rank k rank) (entry_at rows (i - 1)).v) e ∙ rw (entries_end rows i h) at z.same
+    walk_stop g =
+        rw (entries_from behind i h, lt-ltb limit (scale * (rank + (entry_at behind i).g + (entry_at behind i).delta)) g) at z.same
 
-    module _ (h : i < length rows) where
-      pub walk_stop : limit < scale * (rank + (entry_at rows i).g + (entry_at rows i).delta)
-          → ranked rank (entry_at rows (i - 1)).v ≡ look_up scale limit (entries_of rows)
-      unfolding walk
-      walk_stop g = rw (entries_from rows i h, lt-ltb limit (scale * (rank + (entry_at rows i).g + (entry_at rows i).delta)) g) at z.same
-
-      pub walk_more : scale * (rank + (entry_at rows i).g + (entry_at rows i).delta) ≤ limit → Walking scale limit rows (i + 1) (rank + (entry_at rows i).g)
-      unfolding walk
-      walk_more g =
-          let q : suc i - 1 ≡ i = omega arith in
-          rw (add-one i) record {
-            some = omega arith;
-            inside = h;
-            summed = omega (arith, z.summed, ap sum_g (entries_from rows i h));
-            same = rw q (rw (entries_from rows i h, le-ltb limit (scale * (rank + (entry_at rows i).g + (entry_at rows i).delta)) g) at z.same);
-          }
+    pub walk_more : scale * (rank + (entry_at behind i).g + (entry_at behind i).delta) ≤ limit
+        → Walking scale limit rows behind (i + 1) (rank + (entry_at behind i).g) (entry_at behind i).v
+    unfolding walk
+    walk_more g =
+        let s = z.summed in
+        rw (add-one i) record {
+          summed = omega (arith, rw (entries_from behind i h) at s);
+          same = rw (entries_from behind i h, le-ltb limit (scale * (rank + (entry_at behind i).g + (entry_at behind i).delta)) g) at z.same;
+        }

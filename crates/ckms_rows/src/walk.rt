@@ -1,42 +1,33 @@
 // The walk of a query.
 ghost use Rattle.std.specs.Prelude.{◌≡◌, ◌≤◌, ◌<◌, length};
 ghost use Rattle.entries.specs.Entry.{entries_of, sum_g};
-ghost use Rattle.ckms_theory.specs.Walk.{last_rank, look_up};
+ghost use Rattle.ckms_theory.specs.Walk.{look_up};
 
 use ckms_theory::Ranked;
-use fraction::wide;
-
-// The rank answered with the last value: the entries held, as the Rust has it, and not the observations.
-fn last_rank(held: u64, n: u64) -> u32
-    requires { (held ≤ 4096) × (n ≤ 1000000000) }
-    ensures { result ≡ last_rank held n }
-{
-    held as u32
-}
+use entries::Slot;
 
 // The value before the first entry where scale · (r + g + delta) is above the limit, and r; else the last value.
 pub fn walk(rows: &[[u32; 3]], scale: u64, limit: u64) -> Ranked
     requires { (0 < length rows.now) × (length rows.now ≤ 4096) × (sum_g (entries_of rows.now) ≤ 1000000000) × (scale ≤ 131072) }
     ensures { result ≡ look_up scale limit (entries_of rows.now) }
 {
-    let mut rank = wide(rows[0][1]);
-    let mut i = 1;
-    while i < rows.len() {
-        let row = rows[i];
-        let g = wide(row[1]);
-        if limit < scale * (rank + g + wide(row[2])) {
-            let value = rows[i - 1][0];
+    let mut before = rows[0].entry();
+    let mut rank = u64::from(before.g);
+    for row in &rows[1..] {
+        let e = row.entry();
+        let g = u64::from(e.g);
+        if limit < scale * (rank + g + u64::from(e.delta)) {
             return Ranked {
                 rank: rank as u32,
-                value,
+                value: before.v,
             };
         }
         rank += g;
-        i += 1;
+        before = e;
     }
-    let value = rows[i - 1][0];
+    // with the last value the rank of the entries held is answered, as the Rust has it, and not that of the observations
     Ranked {
-        rank: last_rank(i as u64, rank),
-        value,
+        rank: rows.len() as u32,
+        value: before.v,
     }
 }

@@ -32,14 +32,6 @@ stands : (size : ℕ) (ls : List ℕ) (k i : ℕ) → suc k ≤ i → i < length
 unfolding join
 stands size ls k i b h t = moved_on 0 (λ _. join size) ls k i b h (rw t)
 
--- the two outcomes of a step, where the test is known
-module _ (size : ℕ) (ls : List ℕ) (w i : ℕ) where
-  pub turn_joined : leb (get_or ls (w - 1) 0 + get_or ls i 0) size ≡ true → Turned size w i ls w (set ls (w - 1) (get_or ls (w - 1) 0 + get_or ls i 0))
-  turn_joined t = record { place = rw t; list = rw t }
-
-  pub turn_moved : leb (get_or ls (w - 1) 0 + get_or ls i 0) size ≡ false → Turned size w i ls (w + 1) (set ls w (get_or ls i 0))
-  turn_moved t = record { place = rw t (add-one w); list = rw t }
-
 -- one step, as `turn` states it
 pub joining_more : (size w i : ℕ) (ls : List ℕ) (after : ℕ) (left : List ℕ) → 0 < w → w ≤ i → i < length ls
     → Turned size w i ls after left → (1 ≤ after) × (after ≤ i + 1) × (joining size after (i + 1) left ≡ joining size w i ls)

@@ -8,6 +8,7 @@ use native.Mathlib.Omega.{arith}
 use native.Mathlib.Numerals.{add-one}
 use lib.ListN.{length, get_or, set, take, drop, length-set, drop_of_length-le}
 use lib.Seq.{length-take-le, take-length, drop-length, drop-cons, append_snoc, drop-set-lt, get_or-set_same, take-suc-set}
+use borrow.Rule.Slice.PartMut.{put_mid}
 use Rattle.ckms_squash.proofs.Passes.{taken_in, moved_on, all_done}
 use Rattle.fraction.specs.declared.Fraction.{Fraction}
 use Rattle.entries.specs.declared.Entry.{Entry}
@@ -95,12 +96,6 @@ stepped error (suc k) i es after left p b h t = rw (t.place, t.list) (go (merges
       long = length-set es (suc k) (get_or es i zero_entry);
     }
 
--- no step yet
-pub pass_none : (error : Fraction) (w i : ℕ) (es : List Entry) → 1 ≤ w → w ≤ i → Passed error w i i es w es
-pass_none error w i es p b =
-    let q : i - i ≡ 0 = omega arith in
-    record { some = p; few = b; result = refl; marked = rw q refl; count = rw q (omega arith) }
-
 -- one step more
 pub pass_more : (error : Fraction) (w i j : ℕ) (es : List Entry) (v : ℕ) (fs : List Entry) (after : ℕ) (left : List Entry) → i ≤ j → j < length fs
     → Passed error w i j es v fs → Turned error v j fs after left → Passed error w i (j + 1) es after left
@@ -152,6 +147,13 @@ first_marks ms ns (suc a) h e = let q : suc a - 1 ≡ a = omega arith in rw (q, 
 pub next_block : (ls : List ℕ) (b : ℕ) → b < length ls → total (drop b ls) ≡ get_or ls b 0 + total (drop (b + 1) ls)
 next_block ls b h = rw (add-one b, drop-cons ls b 0 h)
 
+-- a list whose part behind its first place was written to
+pub behind_first : (ls new : List ℕ) → 0 < length ls → put_mid 1 (length ls - 1) ls new ≡ take 1 ls ++ new
+behind_first [] new h = absurd (omega arith)
+behind_first (a ∷ ls) new h =
+    let q : suc (length ls) - 1 ≡ length ls = omega arith in
+    rw (q, drop-length ls, append-nil new)
+
 -- the pass between two blocks: the first b of them are done, and they hold the first i of n entries; `goal` and `lengths` are what it is to leave
 pub record Between (error : Fraction) (goal : List Entry) (lengths : List ℕ) (n w i b : ℕ) (es : List Entry) (ls : List ℕ) : Type 0 where
   pub some : 1 ≤ w
@@ -162,10 +164,6 @@ pub record Between (error : Fraction) (goal : List Entry) (lengths : List ℕ) (
   pub blocks : take b ls ++ kept (coming error w i es) (drop b ls) ≡ lengths
 
 module _ (error : Fraction) (goal : List Entry) (lengths : List ℕ) (n w i b : ℕ) (es : List Entry) (ls : List ℕ) (z : Between error goal lengths n w i b es ls) where
-  -- the next block fits
-  pub between_fits : b < length ls → i + get_or ls b 0 ≤ n
-  between_fits h = omega (arith, next_block ls b h, z.rest)
-
   pub between_more : (after : ℕ) (left : List Entry) → b < length ls → length left ≡ n → Passed error w i (i + get_or ls b 0) es after left
       → Between error goal lengths n after (i + get_or ls b 0) (b + 1) left (set ls b (after - w))
   between_more after left h l p =
@@ -190,9 +188,6 @@ module _ (error : Fraction) (goal : List Entry) (lengths : List ℕ) (n w i b : 
 
 -- the first block and then the others make the whole pass
 module _ (error : Fraction) (es : List Entry) (ls : List ℕ) (a w : ℕ) (fs : List Entry) (p : 0 < length es) (h : 0 < length ls) (q : 1 ≤ a) (e : a ≡ get_or ls 0 0) (z : Passed error 1 1 a es w fs) where
-  pub first_rest : a + total (drop 1 (set ls 0 w)) ≡ total ls
-  first_rest = rw (drop-set-lt 1 ls 0 w (omega arith)) (omega (arith, next_block ls 0 h))
-
   pub squash_done : (after : ℕ) (left : List Entry) (lens : List ℕ) → Finished error w a fs (set ls 0 w) after left lens → Squashed error es ls after left lens
   squash_done after left lens f =
       let m = first_marks (marks error es) (coming error 1 1 es) a q (begin error es p).1 in

@@ -7,12 +7,14 @@ use mathlib.Core.Bool.{true, ◌&&◌, cond, and-eq-true_iff}
 use mathlib.Core.List.{List}
 use lib.Dec.{eqb, ltb}
 use lib.ListN.{length}
+use Rattle.std.specs.Prelude.{Option, Some}
 use borrow.Author.Tests.{lt-ltb, ltb-true}
 use Rattle.fraction.specs.declared.Fraction.{Fraction}
 use Rattle.fraction.specs.Products.{period}
 use Rattle.entries.specs.declared.Entry.{Entry}
 use Rattle.entries.specs.Entry.{zero_entry}
 use Rattle.entries.specs.Lists.{layout}
+use Rattle.mean.specs.declared.Mean.{Mean}
 use Rattle.ckms_store_steps.specs.declared.Store.{Store}
 use Rattle.ckms_store_steps.specs.Answers.{state_of}
 use Rattle.ckms_store_work.specs.Steps as stepping
@@ -20,8 +22,6 @@ use Rattle.ckms_store_steps.specs.Sound as sounding
 use Rattle.ckms_store_work.specs.Changes.{tidy, put_in}
 use Rattle.ckms_store_grow.specs.Grow.{GrowPost}
 use Rattle.ckms_steps.specs.declared.CKMS.{CKMS}
-use Rattle.ckms_steps.specs.declared.Last.TheVariants as last
-use Rattle.ckms_steps.specs.declared.Cma.{Cma}
 use Rattle.ckms_steps.specs.State.{block, samples, modulus, count_on, cma_after, last_sound, cma_sound, record_sound, sound}
 use Rattle.ckms_steps.specs.Steps as ckms
 use Rattle.ckms_steps.specs.Steps.{CmaPost, Ready, TakePost}
@@ -41,10 +41,10 @@ pub store_ready : (c : CKMS) (list : List Entry) (lens : List ℕ) → Ready c l
 store_ready c list lens r = record { allowed = r.allowed; sound = (sound_parts c list lens r.sound).0 }
 
 -- the record made anew: the error, the store after the insert, the counter, the value and the mean
-abbrev pub record_of : Fraction → Store → ℕ → ℕ → Cma → CKMS
-record_of error r i x m = record { error = error; n = r.n; held = r.held; blocks = r.blocks; inserts = i; last_in = last.Value x; cma = m }
+abbrev pub record_of : Fraction → Store → ℕ → ℕ → Option Mean → CKMS
+record_of error r i x m = record { error = error; n = r.n; held = r.held; blocks = r.blocks; inserts = i; last_in = Some x; cma = m }
 
-pub take_post : (c : CKMS) (s r : Store) (i x n : ℕ) (m : Cma) (list list' : List Entry) (lens lens' : List ℕ) → s ≡ samples c → i ≡ count_on c.error c.inserts → n ≡ suc c.n
+pub take_post : (c : CKMS) (s r : Store) (i x n : ℕ) (m : Option Mean) (list list' : List Entry) (lens lens' : List ℕ) → s ≡ samples c → i ≡ count_on c.error c.inserts → n ≡ suc c.n
     → CmaPost c.cma x n m → sound c list lens ≡ true → GrowPost s i list lens x r list' lens' → TakePost c list lens x (record_of c.error r i x m) list' lens'
 take_post c s r i x n m list list' lens lens' e f k p h g = record {
   state = state;

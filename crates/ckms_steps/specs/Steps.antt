@@ -1,33 +1,30 @@
 -- What the inner steps ask, answer and leave: the test of every call but opening, the mean after an insert, and an insert once its tests are passed.
 -- Assumes nothing: these are definitions.
-use Rattle.std.specs.Prelude.{◌≡◌, ℕ, suc, true, cond, not, List, length}
+use Rattle.std.specs.Prelude.{◌≡◌, ℕ, suc, true, cond, not, List, length, Option, Some, Result, Ok, Err}
 use Rattle.refusal.specs.declared.Refusal.{Refusal}
 use Rattle.refusal.specs.declared.Refusal.TheVariants.{Slots, Damaged}
 use Rattle.entries.specs.declared.Entry.{Entry}
 use Rattle.entries.specs.Entry.{zero_entry}
 use Rattle.entries.specs.Lists.{layout}
-use Rattle.ckms_store_steps.specs.declared.Checked.{Checked}
-use Rattle.ckms_store_steps.specs.declared.Checked.TheVariants as checking
+use Rattle.mean.specs.declared.Mean.{Mean}
 use Rattle.ckms_store_steps.specs.Held.{Held, held_in}
 use Rattle.ckms_store_steps.specs.Limits.{slots_ok}
 use Rattle.ckms_store_work.specs.Changes.{put_in}
 use Rattle.ckms_steps.specs.declared.CKMS.{CKMS}
-use Rattle.ckms_steps.specs.declared.Last.TheVariants as last
-use Rattle.ckms_steps.specs.declared.Cma.{Cma}
 use Rattle.ckms_steps.specs.State.{samples, count_on, taken, cma_after, cma_sound, cma_in_range, sound}
 
 -- every call but opening: SLOTS, DAMAGED; else its own answer
-abbrev pub tested : {A : Type 0} → (Refusal → A) → CKMS → List Entry → List ℕ → A → A
-tested refused c list lens answer =
-    cond (not (slots_ok (length list) (length lens))) (refused Slots)
-    (cond (not (sound c list lens)) (refused Damaged)
+abbrev pub tested : {A : Type 0} → CKMS → List Entry → List ℕ → Result A Refusal → Result A Refusal
+tested c list lens answer =
+    cond (not (slots_ok (length list) (length lens))) (Err Slots)
+    (cond (not (sound c list lens)) (Err Damaged)
     answer)
 
-unfoldable pub checked : CKMS → List Entry → List ℕ → Checked
-checked c list lens = tested checking.Refused c list lens checking.Sound
+unfoldable pub checked : CKMS → List Entry → List ℕ → Result (Unit {0}) Refusal
+checked c list lens = tested c list lens (Ok tt)
 
 -- the mean after an insert, and that it stays sound and in range
-pub record CmaPost (c : Cma) (v n : ℕ) (r : Cma) : Type 0 where
+pub record CmaPost (c : Option Mean) (v n : ℕ) (r : Option Mean) : Type 0 where
   pub answered : r ≡ cma_after c v n
   pub kept : (m : ℕ) → suc m ≡ n → cma_sound m c ≡ true → cma_sound n r ≡ true
   pub ranged : (m : ℕ) → suc m ≡ n → cma_sound m c ≡ true → cma_in_range c ≡ true → cma_in_range r ≡ true
@@ -49,7 +46,7 @@ state_of c h x = record {
   held = length h.entries;
   blocks = length h.blocks;
   inserts = count_on c.error c.inserts;
-  last_in = last.Value x;
+  last_in = Some x;
   cma = cma_after c.cma x (suc c.n);
 }
 

@@ -14,21 +14,7 @@ use refusal::Refusal;
 mod record;
 mod steps;
 
-// The last value taken, or nothing while empty.
-#[derive(Clone, Copy)]
-pub enum Last {
-    Nothing,
-    Value(u32),
-}
-
-// The cumulative moving average, or nothing while empty.
-#[derive(Clone, Copy)]
-pub enum Cma {
-    Nothing,
-    Value(Mean),
-}
-
-// A CKMS's own words: those of the store within, the insert counter, the last value and the mean.
+// A CKMS's own words: those of the store within, the insert counter, and the last value and the cumulative moving average, while there are any.
 #[derive(Clone, Copy)]
 pub struct CKMS {
     pub error: Fraction,
@@ -36,15 +22,8 @@ pub struct CKMS {
     pub held: u32,
     pub blocks: u32,
     pub inserts: u32,
-    pub last_in: Last,
-    pub cma: Cma,
-}
-
-// What opening answers.
-#[derive(Clone, Copy)]
-pub enum Opened {
-    Open(CKMS),
-    Refused(Refusal),
+    pub last_in: Option<u32>,
+    pub cma: Option<Mean>,
 }
 
 impl CKMS {
@@ -59,21 +38,18 @@ impl CKMS {
     }
 
     // A fresh CKMS over the lent lists, whose places become zero. Refused: SLOTS, EPSILON.
-    pub fn open(error: Fraction, rows: &mut [[u32; 3]], lens: &mut [u32]) -> Opened
+    pub fn open(error: Fraction, rows: &mut [[u32; 3]], lens: &mut [u32]) -> Result<CKMS, Refusal>
         ensures { OpenPost error (entries_of rows.old) lens.old result (entries_of rows.new) lens.new }
     {
-        let store = Store::open(error, CKMS::BLOCK, rows, lens);
-        if let ckms_store_steps::Opened::Refused(why) = store {
-            return Opened::Refused(why);
-        }
-        Opened::Open(CKMS {
+        Store::open(error, CKMS::BLOCK, rows, lens)?;
+        Ok(CKMS {
             error,
             n: 0,
             held: 0,
             blocks: 0,
             inserts: 0,
-            last_in: Last::Nothing,
-            cma: Cma::Nothing,
+            last_in: None,
+            cma: None,
         })
     }
 }

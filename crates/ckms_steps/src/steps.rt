@@ -5,9 +5,9 @@ ghost use Rattle.ckms_store_steps.specs.Limits.{observations};
 ghost use Rattle.ckms_steps.specs.State.{samples};
 ghost use Rattle.ckms_steps.specs.Steps.{checked, Ready, TakePost};
 
+use crate::CKMS;
 use crate::record::{cma_after, count_on};
-use crate::{CKMS, Last};
-use ckms_store_steps::{Checked, Store};
+use ckms_store_steps::Store;
 use refusal::Refusal;
 
 impl CKMS {
@@ -15,9 +15,8 @@ impl CKMS {
     pub fn samples(self) -> Store
         ensures { result ≡ samples self }
     {
-        let error = self.error;
         Store {
-            error,
+            error: self.error,
             n: self.n,
             held: self.held,
             block: CKMS::BLOCK,
@@ -26,18 +25,14 @@ impl CKMS {
     }
 
     // SLOTS, then DAMAGED: what every call but opening tests first.
-    pub fn check(self, rows: &[[u32; 3]], lens: &[u32]) -> Checked
+    pub fn check(self, rows: &[[u32; 3]], lens: &[u32]) -> Result<(), Refusal>
         ensures { result ≡ checked self (entries_of rows.now) lens.now }
     {
-        let samples = self.samples();
-        let store = samples.check(rows, lens);
-        if let Checked::Refused(why) = store {
-            return Checked::Refused(why);
+        self.samples().check(rows, lens)?;
+        if !self.record_sound() {
+            return Err(Refusal::Damaged);
         }
-        if self.record_sound() {
-            return Checked::Sound;
-        }
-        Checked::Refused(Refusal::Damaged)
+        Ok(())
     }
 
     // One observation more: the work of `insert`, once its tests are passed.
@@ -45,18 +40,16 @@ impl CKMS {
         requires { Ready self (entries_of rows.old) lens.old × (self.n < observations) × (self.held < length rows.old) }
         ensures { TakePost self (entries_of rows.old) lens.old v result (entries_of rows.new) lens.new }
     {
-        let error = self.error;
-        let mean = self.cma;
-        let inserts = count_on(error, self.inserts);
-        let cma = cma_after(mean, v, self.n + 1);
+        let inserts = count_on(self.error, self.inserts);
+        let cma = cma_after(self.cma, v, self.n + 1);
         let samples = ckms_store_grow::grow(self.samples(), inserts, rows, lens, v);
         CKMS {
-            error,
+            error: self.error,
             n: samples.n,
             held: samples.held,
             blocks: samples.blocks,
             inserts,
-            last_in: Last::Value(v),
+            last_in: Some(v),
             cma,
         }
     }

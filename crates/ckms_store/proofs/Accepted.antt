@@ -1,11 +1,10 @@
 -- An accepted call leaves a sound store, from any state that it accepts. Assumes nothing.
 use mathlib.Core.Path.{◌≡◌, sym}
-use Rattle.entries.proofs.Guards.{differ}
+use Rattle.std.specs.Prelude.{Ok}
 use Rattle.ckms_store_steps.specs.Answers.{state_of}
 use Rattle.ckms_store_work.specs.Changes.{tidy_in}
 use Rattle.ckms_store_steps.proofs.Sounds.{sound_rules, rules_sound}
 use Rattle.ckms_store_work.proofs.Works.{put_sound, tidy_sound}
-use Rattle.ckms_store.specs.declared.Compressed.TheVariants as compressing
 use Rattle.ckms_store.specs.Answers.{compressed}
 use Rattle.ckms_store.specs.Promises.{SoundExactly, InsertSound, CompressSound}
 use Rattle.ckms_store.proofs.Exactly.{tested_own, taken_tells}
@@ -24,6 +23,6 @@ pub compress_sound : CompressSound
 unfolding CompressSound compressed
 compress_sound s list lens next e =
     let o =
-    tested_own compressing.Refused (compressing.Done (state_of s s.n (tidy_in s list lens))) s list lens e (λ z. differ (cc)) (λ z. differ (cc)) in
+    tested_own (Ok (state_of s s.n (tidy_in s list lens))) s list lens e (λ z. cc) (λ z. cc) in
     let w : state_of s s.n (tidy_in s list lens) ≡ next = let d = o.1 in cc in
     rw (e, sym w) (tidy_sound s list lens o.0)

@@ -1,6 +1,7 @@
 -- What is promised of the store beside each call's own contract, each statement under its name; the contract of `promises` states them all.
 -- Assumes nothing: these are definitions.
-use Rattle.std.specs.Prelude.{◌≡◌, true, ◌↔◌, ℕ, ◌≤◌, ◌<◌, List, ◌∷◌, length}
+use Rattle.std.specs.Prelude.{◌≡◌, true, ◌↔◌, ℕ, ◌≤◌, ◌<◌, List, ◌∷◌, length, Result, Ok}
+use Rattle.refusal.specs.declared.Refusal.{Refusal}
 use Rattle.fraction.specs.declared.Fraction.{Fraction}
 use Rattle.entries.specs.declared.Entry.{Entry}
 use Rattle.entries.specs.Entry.{entries_of, values}
@@ -10,11 +11,6 @@ use Rattle.ckms_theory.specs.Blocks.{last_of}
 use Rattle.ckms_store_steps.specs.declared.Store.{Store}
 use Rattle.ckms_store_steps.specs.Held.{Held}
 use Rattle.ckms_store_steps.specs.Sound.{sound, Rules}
-use Rattle.ckms_store_steps.specs.declared.Opened.{Opened}
-use Rattle.ckms_store.specs.declared.Inserted.{Inserted}
-use Rattle.ckms_store.specs.declared.Inserted.TheVariants as inserting
-use Rattle.ckms_store.specs.declared.Compressed.{Compressed}
-use Rattle.ckms_store.specs.declared.Compressed.TheVariants as compressing
 use Rattle.ckms_store.specs.Answers.{inserted, inserted_list, inserted_lens, compressed, compressed_list, compressed_lens}
 use Rattle.ckms_store_steps.specs.Opening.{OpenPost}
 use Rattle.ckms_store_work.specs.Changes.{place_of}
@@ -29,12 +25,12 @@ SoundExactly = (s : Store) (list : List Entry) (lens : List ℕ) → (sound s li
 -- an accepted insert, and an accepted compression, leave a sound store, from any state that they accept, reached by a run or not
 unfoldable pub InsertSound : Type 0
 InsertSound =
-    (s : Store) (list : List Entry) (lens : List ℕ) (x : ℕ) (next : Store) → inserted s list lens x ≡ inserting.Taken next
+    (s : Store) (list : List Entry) (lens : List ℕ) (x : ℕ) (next : Store) → inserted s list lens x ≡ Ok next
     → sound next (inserted_list s list lens x) (inserted_lens s list lens x) ≡ true
 
 unfoldable pub CompressSound : Type 0
 CompressSound =
-    (s : Store) (list : List Entry) (lens : List ℕ) (next : Store) → compressed s list lens ≡ compressing.Done next
+    (s : Store) (list : List Entry) (lens : List ℕ) (next : Store) → compressed s list lens ≡ Ok next
     → sound next (compressed_list s list lens) (compressed_lens s list lens) ≡ true
 
 -- a value goes to the front exactly when first v ≥ x, and to the end exactly when last v < x
@@ -46,17 +42,17 @@ EndsByValue =
 -- any two outcomes that a contract allows for one input coincide: the answers, and every word of the lent rows and block lengths
 unfoldable pub OneOpening : Type 0
 OneOpening =
-    (error : Fraction) (block : ℕ) (list : List Entry) (lens : List ℕ) (a b : Opened) (xs ys : List (List ℕ)) (ls ms : List ℕ) → Threes xs → Threes ys
+    (error : Fraction) (block : ℕ) (list : List Entry) (lens : List ℕ) (a b : Result Store Refusal) (xs ys : List (List ℕ)) (ls ms : List ℕ) → Threes xs → Threes ys
     → OpenPost error block list lens a (entries_of xs) ls → OpenPost error block list lens b (entries_of ys) ms → (a ≡ b) × (xs ≡ ys) × (ls ≡ ms)
 
 unfoldable pub OneInsert : Type 0
 OneInsert =
-    (s : Store) (list : List Entry) (lens : List ℕ) (x : ℕ) (a b : Inserted) (xs ys : List (List ℕ)) (ls ms : List ℕ) → Threes xs → Threes ys
+    (s : Store) (list : List Entry) (lens : List ℕ) (x : ℕ) (a b : Result Store Refusal) (xs ys : List (List ℕ)) (ls ms : List ℕ) → Threes xs → Threes ys
     → InsertPost s list lens x a (entries_of xs) ls → InsertPost s list lens x b (entries_of ys) ms → (a ≡ b) × (xs ≡ ys) × (ls ≡ ms)
 
 unfoldable pub OneCompression : Type 0
 OneCompression =
-    (s : Store) (list : List Entry) (lens : List ℕ) (a b : Compressed) (xs ys : List (List ℕ)) (ls ms : List ℕ) → Threes xs → Threes ys
+    (s : Store) (list : List Entry) (lens : List ℕ) (a b : Result Store Refusal) (xs ys : List (List ℕ)) (ls ms : List ℕ) → Threes xs → Threes ys
     → CompressPost s list lens a (entries_of xs) ls → CompressPost s list lens b (entries_of ys) ms → (a ≡ b) × (xs ≡ ys) × (ls ≡ ms)
 
 pub record Promises : Type 0 where

@@ -4,7 +4,7 @@ use Prim.Native.Nat.{ℕ, suc, ◌≤◌}
 use native.Mathlib.Omega.{arith}
 use mathlib.Core.List.{List}
 use lib.ListN.{length, take}
-use borrow.Author.Tests.{eq-eqb, ne_eqb}
+use borrow.Author.Tests.{eq-eqb}
 use Rattle.entries.specs.declared.Entry.{Entry}
 use Rattle.entries.specs.Entry.{zero_entry}
 use Rattle.entries.specs.Lists.{layout}
@@ -13,14 +13,9 @@ use Rattle.ckms_store_steps.specs.declared.Store.{Store}
 use Rattle.ckms_store_steps.specs.Held.{Held, held_in}
 use Rattle.ckms_store_steps.specs.Answers.{state_of}
 use Rattle.ckms_store_work.specs.Changes.{tidy, put_in}
-use Rattle.ckms_store_work.specs.Steps.{Ready, Left, PutPost, TidyPost}
+use Rattle.ckms_store_work.specs.Steps.{Left, PutPost, TidyPost}
 use Rattle.ckms_store_work.proofs.Works.{put_length}
 use Rattle.ckms_store_grow.specs.Grow.{GrowPost}
-
--- an insert leaves what a compression asks
-pub put_ready : (s p : Store) (list list₁ : List Entry) (lens lens₁ : List ℕ) (x : ℕ) → PutPost s list lens x p list₁ lens₁
-    → Ready s list lens → length list₁ ≡ length list → length lens₁ ≡ length lens → Ready p list₁ lens₁
-put_ready s p list list₁ lens lens₁ x a r e f = record { allowed = rw (e, f) r.allowed; sound = a.kept }
 
 -- a compression behind an insert
 module _ (s p r : Store) (list list₁ list₂ : List Entry) (lens lens₁ lens₂ : List ℕ) (x : ℕ) (fit : s.held ≤ length list) where
@@ -56,6 +51,3 @@ module _ (s p r : Store) (list list₁ list₂ : List Entry) (lens lens₁ lens�
   -- by the counter
   pub grown_tidy : (inserts : ℕ) → inserts ≡ 0 → PutPost s list lens x p list₁ lens₁ → TidyPost p list₁ lens₁ r list₂ lens₂ → GrowPost s inserts list lens x r list₂ lens₂
   grown_tidy inserts z a b = rw (eq-eqb inserts 0 z) (then_tidy a b)
-
-pub grown_plain : (s p : Store) (list list₁ : List Entry) (lens lens₁ : List ℕ) (x inserts : ℕ) → (inserts ≡ 0 → ⊥) → PutPost s list lens x p list₁ lens₁ → GrowPost s inserts list lens x p list₁ lens₁
-grown_plain s p list list₁ lens lens₁ x inserts z a = rw (ne_eqb inserts 0 z) a

@@ -9,7 +9,6 @@ ghost use Rattle.ckms_store_steps.specs.Opening.{OpenPost};
 ghost use Rattle.ckms_store_steps.specs.Sound.{words_sound, sound};
 
 use ckms_rows::lists;
-use ckms_theory::place;
 use fraction::Fraction;
 use refusal::Refusal;
 
@@ -23,41 +22,18 @@ pub struct Store {
     pub blocks: u32,
 }
 
-// What opening answers.
-#[derive(Clone, Copy)]
-pub enum Opened {
-    Open(Store),
-    Refused(Refusal),
-}
-
-// What every call but opening tests first.
-#[derive(Clone, Copy)]
-pub enum Checked {
-    Sound,
-    Refused(Refusal),
-}
-
 // Whether there are 1 to 4,096 slots, and as many block places.
 fn slots_ok(rows: usize, places: usize) -> bool
     ensures { result ≡ slots_ok rows places }
 {
-    if rows < 1 {
-        return false;
-    }
-    if Store::SLOTS < rows {
-        return false;
-    }
-    places == rows
+    (1..=Store::SLOTS).contains(&rows) && places == rows
 }
 
 // Whether a block may have so many entries.
 fn size_ok(size: u32) -> bool
     ensures { result ≡ size_ok size }
 {
-    if size < 1 {
-        return false;
-    }
-    size <= Store::BLOCK
+    (1..=Store::BLOCK).contains(&size)
 }
 
 impl Store {
@@ -108,47 +84,43 @@ impl Store {
     }
 
     // A fresh store over the lent lists, whose places become zero. Refused: SLOTS, EPSILON, BLOCK.
-    pub fn open(error: Fraction, block: u32, rows: &mut [[u32; 3]], lens: &mut [u32]) -> Opened
+    pub fn open(
+        error: Fraction,
+        block: u32,
+        rows: &mut [[u32; 3]],
+        lens: &mut [u32],
+    ) -> Result<Store, Refusal>
         ensures { OpenPost error block (entries_of rows.old) lens.old result (entries_of rows.new) lens.new }
     {
-        let slots = rows.len();
-        if slots_ok(slots, lens.len()) {
-            if error.is_error() {
-                if size_ok(block) {
-                    room::clear(rows, 0, slots);
-                    room::clear_numbers(lens, 0, slots);
-                    return Opened::Open(Store {
-                        error,
-                        n: 0,
-                        held: 0,
-                        block,
-                        blocks: 0,
-                    });
-                }
-                return Opened::Refused(Refusal::Block);
-            }
-            return Opened::Refused(Refusal::Epsilon);
+        if !slots_ok(rows.len(), lens.len()) {
+            return Err(Refusal::Slots);
         }
-        Opened::Refused(Refusal::Slots)
+        if !error.is_error() {
+            return Err(Refusal::Epsilon);
+        }
+        if !size_ok(block) {
+            return Err(Refusal::Block);
+        }
+        rows.fill([0; 3]);
+        lens.fill(0);
+        Ok(Store {
+            error,
+            n: 0,
+            held: 0,
+            block,
+            blocks: 0,
+        })
     }
 
     // Whether the words of the state are sound, over so many slots and block places.
     fn words_sound(self, slots: usize, places: usize) -> bool
         ensures { result ≡ words_sound self slots places }
     {
-        let error = self.error;
-        if error.is_error() {
-            if Store::OBSERVATIONS < self.n {
-                return false;
-            }
-            if slots < place(self.held) {
-                return false;
-            }
-            if size_ok(self.block) {
-                return place(self.blocks) <= places;
-            }
-        }
-        false
+        self.error.is_error()
+            && self.n <= Store::OBSERVATIONS
+            && self.held as usize <= slots
+            && size_ok(self.block)
+            && self.blocks as usize <= places
     }
 
     // Whether the state and the lent lists are sound.
@@ -156,26 +128,21 @@ impl Store {
         requires { (length rows.now ≤ 4096) × (length lens.now ≤ 4096) }
         ensures { result ≡ sound self (entries_of rows.now) lens.now }
     {
-        if self.words_sound(rows.len(), lens.len()) {
-            let held = place(self.held);
-            if lists::entries_sound(&rows[..held], Store::DELTA, self.n) {
-                let blocks = place(self.blocks);
-                return lists::blocks_sound(&lens[..blocks], self.block, self.held);
-            }
-        }
-        false
+        self.words_sound(rows.len(), lens.len())
+            && lists::entries_sound(&rows[..self.held as usize], Store::DELTA, self.n)
+            && lists::blocks_sound(&lens[..self.blocks as usize], self.block, self.held)
     }
 
     // SLOTS, then DAMAGED: what every call but opening tests first.
-    pub fn check(self, rows: &[[u32; 3]], lens: &[u32]) -> Checked
+    pub fn check(self, rows: &[[u32; 3]], lens: &[u32]) -> Result<(), Refusal>
         ensures { result ≡ checked self (entries_of rows.now) lens.now }
     {
-        if slots_ok(rows.len(), lens.len()) {
-            if self.is_sound(rows, lens) {
-                return Checked::Sound;
-            }
-            return Checked::Refused(Refusal::Damaged);
+        if !slots_ok(rows.len(), lens.len()) {
+            return Err(Refusal::Slots);
         }
-        Checked::Refused(Refusal::Slots)
+        if !self.is_sound(rows, lens) {
+            return Err(Refusal::Damaged);
+        }
+        Ok(())
     }
 }

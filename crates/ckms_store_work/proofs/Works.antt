@@ -2,20 +2,21 @@
 -- Assumes nothing.
 use mathlib.Core.Path.{◌≡◌, refl, sym, ap, ◌∙◌}
 use mathlib.Core.Bool.{true}
-use mathlib.Core.List.{List, [], ◌∷◌, ◌++◌}
+use mathlib.Core.List.{List, [], ◌∷◌, ◌++◌, append_assoc}
 use Prim.Native.Nat.{ℕ, suc, ◌+◌, ◌-◌, ◌≤◌, ◌<◌}
 use native.Mathlib.Omega.{arith}
 use borrow.Author.Tests.{lt-ltb, le-ltb}
-use lib.ListN.{length, get_or, take, drop, length-append, length-map, take-append-drop}
-use lib.Seq.{length-take-le, take_at, drop_at}
+use lib.ListN.{length, get_or, take, drop, replicate, length-map, take-append-drop}
+use lib.Seq.{length-take-le}
 use Rattle.fraction.specs.declared.Fraction.{Fraction}
 use Rattle.entries.specs.declared.Entry.{Entry}
-use Rattle.entries.specs.Entry.{entry, zero_entry, values}
+use Rattle.entries.specs.Entry.{entry, zero_entry, values, entry_of, entries_of}
 use Rattle.entries.specs.Lists.{put_at, layout}
 use Rattle.entries.proofs.Layouts.{length_put, layout_front, layout_room, layout_full}
+use Rattle.entries.proofs.Maps.{map_take}
 use Rattle.entries.proofs.Parts.{below_le}
 use Rattle.ckms_theory.specs.declared.Spot.{Spot}
-use Rattle.ckms_theory.specs.Blocks.{total, block_of, grown}
+use Rattle.ckms_theory.specs.Blocks.{total, block_of}
 use Rattle.ckms_theory.specs.Seek.{NoneEmpty, InBlocks, Sought, Grown}
 use Rattle.ckms_theory.specs.Pass.{Whole}
 use Rattle.ckms_theory.specs.Squash.{squashed, marks, kept}
@@ -71,9 +72,14 @@ put_length s list lens x h =
     length_put (place_of x (held_in s list lens)) (entry x 1 (new_delta s.error x (held_in s list lens))) (take s.held list)
     ∙ ap suc (length-take-le s.held list h)
 
--- what is counted stands in the lent list
-pub grown_inside : (size blocks b : ℕ) (lens : List ℕ) (after : ℕ) (lens' : List ℕ) → Grown size blocks b lens after lens' → after ≤ length lens'
-grown_inside size blocks b lens after lens' g = omega (arith, g.count, ap length g.list, length-append (grown size b (take blocks lens)) (drop after lens))
+-- what is left in a part in use, and zeros behind it, in the lent list
+part_laid : {A : Type 0} (z : A) (es list part : List A) (n most after : ℕ) → n ≡ most → after ≡ length es → part ≡ es ++ replicate (n - after) z
+    → part ++ drop most list ≡ layout z es most list
+part_laid z es list part n most after h k e = rw (e, h, k) (append_assoc es (replicate (most - length es) z) (drop most list))
+
+-- what was found among the rows in use was found among the entries held
+pub found : (x held : ℕ) (rows : List (List ℕ)) (ls : List ℕ) (spot : Spot) → Sought x (entries_of (take held rows)) ls spot → Sought x (take held (entries_of rows)) ls spot
+found x held rows ls spot f = rw (map_take entry_of held rows) at f
 
 module _ (s : Store) (list : List Entry) (lens : List ℕ) (r : Ready s list lens) where
   pub ruled : Rules s list lens
@@ -82,23 +88,23 @@ module _ (s : Store) (list : List Entry) (lens : List ℕ) (r : Ready s list len
   pub slots_are : (1 ≤ length list) × (length list ≤ 4096) × (length lens ≡ length list)
   slots_are = slots_facts (length list) (length lens) r.allowed
 
-  held-long : length (take s.held list) ≡ s.held
-  held-long = length-take-le s.held list ruled.fits
+  pub held_long : length (take s.held list) ≡ s.held
+  held_long = length-take-le s.held list ruled.fits
 
-  blocks-long : length (take s.blocks lens) ≡ s.blocks
-  blocks-long = length-take-le s.blocks lens ruled.places
+  pub blocks_long : length (take s.blocks lens) ≡ s.blocks
+  blocks_long = length-take-le s.blocks lens ruled.places
 
   -- there are no more blocks than entries
   pub blocks_few : s.blocks ≤ s.held
-  blocks_few = omega (arith, blocks_least s.block (take s.blocks lens) ruled.blocks, ruled.all, blocks-long)
+  blocks_few = omega (arith, blocks_least s.block (take s.blocks lens) ruled.blocks, ruled.all, blocks_long)
 
   pub in_blocks : InBlocks (take s.held list) (take s.blocks lens)
   in_blocks = record {
-    few = omega (arith, held-long, ruled.fits, slots_are);
+    few = omega (arith, held_long, ruled.fits, slots_are);
     counted = omega (arith, ruled.summed, ruled.count);
     sorted = ruled.sorted;
     each = none_empty s.block (take s.blocks lens) ruled.blocks;
-    all = ruled.all ∙ sym held-long;
+    all = ruled.all ∙ sym held_long;
   }
 
   -- a step that keeps the rules, and whose lists begin with what is held, leaves a sound state
@@ -131,13 +137,13 @@ module _ (s : Store) (list : List Entry) (lens : List ℕ) (r : Ready s list len
 
   module _ (x : ℕ) (l : s.n < observations) (spot : Spot) (f : Sought x (take s.held list) (take s.blocks lens) spot) where
     pub place_inside : spot.place ≤ s.held
-    place_inside = omega (arith, f.place, below_le (values (take s.held list)) x, length-map (take s.held list) (λ (e : Entry). e.v), held-long)
+    place_inside = omega (arith, f.place, below_le (values (take s.held list)) x, length-map (take s.held list) (λ (e : Entry). e.v), held_long)
 
     pub rank_fits : spot.rank ≤ 1000004096
-    rank_fits = omega (arith, f.rank, rank_small x (take s.held list) (take s.blocks lens), ruled.summed, held-long, ruled.fits, slots_are)
+    rank_fits = omega (arith, f.rank, rank_small x (take s.held list) (take s.blocks lens), ruled.summed, held_long, ruled.fits, slots_are)
 
     pub block_there : spot.block ≤ s.blocks - 1
-    block_there = omega (arith, f.found, block_last x (take s.held list) (take s.blocks lens), blocks-long)
+    block_there = omega (arith, f.found, block_last x (take s.held list) (take s.blocks lens), blocks_long)
 
     -- the entries and the lengths that the inner functions left
     pub put_left : (d : ℕ) (a : Store) (list' : List Entry) (lens' : List ℕ) → d ≡ delta_at s.error spot.place s.held spot.rank
@@ -147,7 +153,7 @@ module _ (s : Store) (list : List Entry) (lens : List ℕ) (r : Ready s list len
     unfolding put new_delta
     put_left d a list' lens' e p g a₁ a₂ a₃ a₄ =
         let h : Held = put_in s list lens x in
-        let new : d ≡ new_delta s.error x (held_in s list lens) = e ∙ rw (f.place, f.rank, held-long) in
+        let new : d ≡ new_delta s.error x (held_in s list lens) = e ∙ rw (f.place, f.rank, held_long) in
         let c : a.blocks ≡ length h.blocks = rw f.found at g.count in
         let long : length h.entries ≡ suc s.held = put_length s list lens x ruled.fits in
         left (suc s.n) h (suc s.held) (length h.blocks) a list' lens'
@@ -158,9 +164,8 @@ module _ (s : Store) (list : List Entry) (lens : List ℕ) (r : Ready s list len
 
   module _ (h : 3 ≤ s.held) where
     -- what the two halves of a compression ask
-    pub whole : Whole s.error s.held (take s.blocks lens)
+    pub whole : Whole s.held (take s.blocks lens)
     whole = record {
-      allowed = ruled.error;
       few = omega (arith, ruled.fits, slots_are);
       block = some (take s.blocks lens) ruled.all;
       first = first (take s.blocks lens) ruled.blocks ruled.all;
@@ -175,26 +180,31 @@ module _ (s : Store) (list : List Entry) (lens : List ℕ) (r : Ready s list len
         first [] f e = absurd (omega arith)
         first (a ∷ ls) f e = f.0
 
-    module _ (left-rows : ℕ) (list' : List Entry) (lens' : List ℕ) (q : SquashPost s.error s.held s.blocks list lens left-rows list' lens') where
-      kept-long : length (kept (marks s.error (take s.held list)) (take s.blocks lens)) ≡ s.blocks
-      kept-long = length_kept (marks s.error (take s.held list)) (take s.blocks lens) ∙ blocks-long
-
-      pub tidy_left : (a : Store) (lens'' : List ℕ) → JoinPost s.block s.blocks lens' a.blocks lens'' → a.error ≡ s.error → a.n ≡ s.n → a.held ≡ left-rows → a.block ≡ s.block
-          → TidyPost s list lens a list' lens''
-      tidy_left a lens'' j a₁ a₂ a₃ a₄ =
-          let ls : List ℕ = kept (marks s.error (take s.held list)) (take s.blocks lens) in
-          let t : take s.blocks lens' ≡ ls = ap (take s.blocks) q.lengths ∙ take_at ls (drop s.blocks lens) s.blocks kept-long in
-          let d : drop s.blocks lens' ≡ drop s.blocks lens = ap (drop s.blocks) q.lengths ∙ drop_at ls (drop s.blocks lens) s.blocks kept-long in
-          let e : tidy_in s list lens ≡ record { entries = squashed s.error (take s.held list); blocks = joined s.block ls } = tidy_many s.error s.block (held_in s list lens) (omega (arith, held-long)) in
-          left s.n (tidy_in s list lens) s.held s.blocks a list' lens'' (tidy_kept s.error s.block s.n (held_in s list lens) (sound_kept s list lens ruled)) ruled.count
-          (rw e (store_eq a s.error s.n (length (squashed s.error (take s.held list))) s.block (length (joined s.block ls)) a₁ a₂ (a₃ ∙ q.count) a₄ (rw t at j.count)))
-          (rw e q.entries)
-          (rw e (rw (t, d) at j.lengths))
+    -- the parts in use as the two halves of a compression left them
+    pub tidy_left : (a : Store) (part : List Entry) (lens' lens'' : List ℕ) → SquashPost s.error (take s.held list) (take s.blocks lens) a.held part lens'
+        → JoinPost s.block lens' a.blocks lens'' → a.error ≡ s.error → a.n ≡ s.n → a.block ≡ s.block
+        → TidyPost s list lens a (part ++ drop s.held list) (lens'' ++ drop s.blocks lens)
+    tidy_left a part lens' lens'' q j a₁ a₂ a₃ =
+        let es : List Entry = squashed s.error (take s.held list) in
+        let ls : List ℕ = kept (marks s.error (take s.held list)) (take s.blocks lens) in
+        let k : length ls ≡ s.blocks = length_kept (marks s.error (take s.held list)) (take s.blocks lens) ∙ blocks_long in
+        let i : JoinPost s.block ls a.blocks lens'' = rw q.lengths at j in
+        let e : tidy_in s list lens ≡ record { entries = es; blocks = joined s.block ls } = tidy_many s.error s.block (held_in s list lens) (omega (arith, held_long)) in
+        left s.n (tidy_in s list lens) s.held s.blocks a _ _ (tidy_kept s.error s.block s.n (held_in s list lens) (sound_kept s list lens ruled)) ruled.count
+        (rw e (store_eq a s.error s.n (length es) s.block (length (joined s.block ls)) a₁ a₂ q.count a₃ i.count))
+        (rw e (part_laid zero_entry es list part (length (take s.held list)) s.held a.held held_long q.count q.entries))
+        (rw e (part_laid 0 (joined s.block ls) lens lens'' (length ls) s.blocks a.blocks k i.count i.lengths))
 
   pub tidy_few : s.held < 3 → TidyPost s list lens s list lens
   tidy_few h =
-      let e : tidy_in s list lens ≡ held_in s list lens = tidy_none s.error s.block (held_in s list lens) (omega (arith, held-long)) in
+      let e : tidy_in s list lens ≡ held_in s list lens = tidy_none s.error s.block (held_in s list lens) (omega (arith, held_long)) in
       left s.n (tidy_in s list lens) s.held s.blocks s list lens (tidy_kept s.error s.block s.n (held_in s list lens) (sound_kept s list lens ruled)) ruled.count
-      (rw e (store_eq s s.error s.n (length (take s.held list)) s.block (length (take s.blocks lens)) refl refl (sym held-long) refl (sym blocks-long)))
-      (rw e (sym (take-append-drop s.held list) ∙ layout_full zero_entry (take s.held list) s.held list held-long))
-      (rw e (sym (take-append-drop s.blocks lens) ∙ layout_full 0 (take s.blocks lens) s.blocks lens blocks-long))
+      (rw e (store_eq s s.error s.n (length (take s.held list)) s.block (length (take s.blocks lens)) refl refl (sym held_long) refl (sym blocks_long)))
+      (rw e (sym (take-append-drop s.held list) ∙ layout_full zero_entry (take s.held list) s.held list held_long))
+      (rw e (sym (take-append-drop s.blocks lens) ∙ layout_full 0 (take s.blocks lens) s.blocks lens blocks_long))
+
+-- the rows in use are lent, and are as many as are held
+pub rows_used : (s : Store) (rows : List (List ℕ)) (lens : List ℕ) → Ready s (entries_of rows) lens → (s.held ≤ length rows) × (length (take s.held rows) ≡ s.held)
+rows_used s rows lens r =
+    let fits : s.held ≤ length rows = omega (arith, (ruled s (entries_of rows) lens r).fits, length-map rows entry_of) in
+    (fits, length-take-le s.held rows fits)

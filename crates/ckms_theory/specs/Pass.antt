@@ -1,8 +1,7 @@
 -- What the steps of the squash ask and leave, while it goes on in place.
 -- Assumes nothing: these are definitions.
-use Rattle.std.specs.Prelude.{◌≡◌, ℕ, suc, ◌+◌, ◌-◌, ◌≤◌, ◌<◌, true, cond, List, ◌++◌, length, get_or, set, take, drop}
+use Rattle.std.specs.Prelude.{◌≡◌, ℕ, suc, ◌+◌, ◌-◌, ◌≤◌, ◌<◌, cond, List, ◌++◌, length, get_or, set, take, drop}
 use Rattle.fraction.specs.declared.Fraction.{Fraction}
-use Rattle.fraction.specs.Allowed.{is_error}
 use Rattle.entries.specs.declared.Entry.{Entry}
 use Rattle.entries.specs.Entry.{zero_entry}
 use Rattle.ckms_theory.specs.Blocks.{total}
@@ -30,8 +29,7 @@ pub record Passed (error : Fraction) (w i end : ℕ) (es : List Entry) (after : 
   pub count : after ≡ w + total (take (end - i) (coming error w i es))
 
 -- n entries that stand in the blocks of these lengths, one block at least
-pub record Whole (error : Fraction) (n : ℕ) (ls : List ℕ) : Type 0 where
-  pub allowed : is_error error ≡ true
+pub record Whole (n : ℕ) (ls : List ℕ) : Type 0 where
   pub few : n ≤ 4096
   pub block : 0 < length ls
   pub first : 1 ≤ get_or ls 0 0

@@ -1,8 +1,7 @@
 // The definitions of the CKMS store's work on entries and block lengths are in specs/, and small readings of them in proofs/. Here stand the
-// structs that the definitions name, a conversion that their crates share, and the function that ties the readings to code.
+// structs that the definitions name, and the function that ties the readings to code.
 #![tactic(auto)]
 
-ghost use Rattle.std.specs.Prelude.{◌≡◌, ◌<◌, ◌^◌};
 ghost use Rattle.ckms_theory.specs.Readings.{Readings};
 
 // A block, a place and r.
@@ -18,13 +17,6 @@ pub struct Spot {
 pub struct Ranked {
     pub rank: u32,
     pub value: u32,
-}
-
-// A u32 as a place, with its bound in the contract.
-pub fn place(x: u32) -> usize
-    ensures { (result ≡ x) × (result < 2 ^ 32) }
-{
-    x as usize
 }
 
 // Small readings of the definitions. This contract states them, so that none can go missing.

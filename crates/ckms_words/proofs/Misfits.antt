@@ -4,7 +4,8 @@ use mathlib.Core.Path.{◌≡◌, refl, ap, ◌∙◌}
 use mathlib.Core.Bool.{Bool, true, false, not, cond}
 use lib.ListN.{length}
 use Rattle.refusal.specs.declared.Refusal.TheVariants.{Slots, Damaged}
-use Rattle.ckms_store_steps.specs.declared.Checked.{Checked}
+use Rattle.refusal.specs.declared.Refusal.{Refusal}
+use Rattle.std.specs.Prelude.{Err, Result}
 use Rattle.ckms_store_steps.specs.Limits.{slots_ok}
 use Rattle.ckms_store_steps.specs.Sound as store
 use Rattle.ckms_steps.specs.declared.CKMS.{CKMS}
@@ -12,7 +13,7 @@ use Rattle.ckms_steps.specs.Steps.{checked}
 use Rattle.ckms_words.specs.Laws.{CkmsMisfits}
 use Rattle.ckms_words.proofs.Fitting.{ckms_misfitted}
 
-turned : (b : Bool) → cond (not b) (Checked.Refused Slots) (Checked.Refused Damaged) ≡ cond b (Checked.Refused Damaged) (Checked.Refused Slots)
+turned : (b : Bool) → ◌≡◌ {A = Result (Unit {0}) Refusal} (cond (not b) (Err Slots) (Err Damaged)) (cond b (Err Damaged) (Err Slots))
 turned true = refl
 turned false = refl
 

@@ -1,10 +1,9 @@
 -- The state of a CKMS that words make.
 -- Assumes nothing: these are definitions.
-use Rattle.std.specs.Prelude.{ℕ, ◌≤◌, Bool, false, not, cond, ◌&&◌, leb, eqb, Float}
+use Rattle.std.specs.Prelude.{ℕ, ◌≤◌, Bool, false, not, cond, ◌&&◌, leb, eqb, Float, Option, Some, None}
 use Rattle.std.specs.Float.{nan, inf, fin}
 use Rattle.ckms_steps.specs.declared.CKMS.{CKMS}
-use Rattle.ckms_steps.specs.declared.Last.{Last}
-use Rattle.ckms_steps.specs.declared.Cma.{Cma}
+use Rattle.mean.specs.declared.Mean.{Mean}
 use Rattle.ckms_words.specs.declared.CkmsWords.{CkmsWords}
 use Rattle.words.specs.Words.{largest, flag_fits}
 
@@ -41,14 +40,14 @@ fits w = narrow w && (flag_fits w.has_last (eqb w.last 0) && flag_fits w.has_mea
 
 -- the state of words that fit none: never sound, whatever is lent
 abbrev pub misfit : CKMS
-misfit = record { error = record { num = 0; den = 0 }; n = 0; held = 0; blocks = 0; inserts = 0; last_in = Last.Nothing; cma = Cma.Nothing }
+misfit = record { error = record { num = 0; den = 0 }; n = 0; held = 0; blocks = 0; inserts = 0; last_in = None; cma = None }
 
 -- the state of words
-abbrev pub last_beside : ℕ → ℕ → Last
-last_beside flag v = cond (eqb flag 1) (Last.Value v) Last.Nothing
+abbrev pub last_beside : ℕ → ℕ → Option ℕ
+last_beside flag v = cond (eqb flag 1) (Some v) None
 
-abbrev pub cma_beside : ℕ → Float → Cma
-cma_beside flag x = cond (eqb flag 1) (Cma.Value (record { value = x })) Cma.Nothing
+abbrev pub cma_beside : ℕ → Float → Option Mean
+cma_beside flag x = cond (eqb flag 1) (Some record { value = x }) None
 
 abbrev pub narrowed : CkmsWords → CKMS
 narrowed w = record {

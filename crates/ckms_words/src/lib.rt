@@ -1,12 +1,12 @@
 // A CKMS's state. Words that fit none are read as a state that is never sound, whatever is lent: the core refuses it, after SLOTS, as DAMAGED.
-// The mean is an f64 here: a NaN is then a value which the core can refuse.
+// The mean is an f64 here: a NaN is then a value which the core can refuse. C reads this struct, so what there may not be stands behind a flag.
 #![tactic(auto)]
 
-ghost use Rattle.std.specs.Prelude.{◌≡◌};
+ghost use Rattle.std.specs.Prelude.{◌≡◌, cond};
 ghost use Rattle.ckms_words.specs.Promises.{Promises};
-ghost use Rattle.ckms_words.specs.Ckmses.{plus_zero, Narrow, narrow, fits, misfit, last_beside, cma_beside, narrowed, ckms_of};
+ghost use Rattle.ckms_words.specs.Ckmses.{plus_zero, narrow, misfit, narrowed, ckms_of};
 
-use ckms_steps::{CKMS, Cma, Last};
+use ckms_steps::CKMS;
 use fraction::Fraction;
 use mean::Mean;
 use words::flag_fits;
@@ -31,7 +31,7 @@ pub struct CkmsWords {
 fn is_plus_zero(x: f64) -> bool
     ensures { result ≡ plus_zero x }
 {
-    if x == 0.0 { 0.0 < 1.0 / x } else { false }
+    x == 0.0 && 0.0 < 1.0 / x
 }
 
 // The state of words that fit none: its error is not allowed.
@@ -44,96 +44,41 @@ pub fn misfit() -> CKMS
         held: 0,
         blocks: 0,
         inserts: 0,
-        last_in: Last::Nothing,
-        cma: Cma::Nothing,
+        last_in: None,
+        cma: None,
     }
-}
-
-// The last value and the mean behind their flags.
-fn last_beside(flag: u64, last: u32) -> Last
-    ensures { result ≡ last_beside flag last }
-{
-    if flag == 1 {
-        return Last::Value(last);
-    }
-    Last::Nothing
-}
-
-fn cma_beside(flag: u64, mean: f64) -> Cma
-    ensures { result ≡ cma_beside flag mean }
-{
-    if flag == 1 {
-        return Cma::Value(Mean { value: mean });
-    }
-    Cma::Nothing
 }
 
 impl CkmsWords {
-    // Whether each word that is a number of 32 bits is one.
-    fn narrow(self) -> bool
-        ensures { result ≡ narrow self }
+    // The state of the words, where each word that is a number of 32 bits is one.
+    fn narrowed(self) -> Option<CKMS>
+        ensures { result ≡ cond (narrow self) (Some (narrowed self)) None }
     {
-        if 4294967295 < self.num {
-            return false;
-        }
-        if 4294967295 < self.den {
-            return false;
-        }
-        if 4294967295 < self.n {
-            return false;
-        }
-        if 4294967295 < self.held {
-            return false;
-        }
-        if 4294967295 < self.blocks {
-            return false;
-        }
-        if 4294967295 < self.inserts {
-            return false;
-        }
-        if 4294967295 < self.last {
-            return false;
-        }
-        true
-    }
-
-    // Whether the words fit a CKMS.
-    fn fits(self) -> bool
-        ensures { result ≡ fits self }
-    {
-        if self.narrow() {
-            if flag_fits(self.has_last, self.last == 0) {
-                return flag_fits(self.has_mean, is_plus_zero(self.mean));
-            }
-        }
-        false
-    }
-
-    // The state of words that fit.
-    fn narrowed(self) -> CKMS
-        requires { Narrow self }
-        ensures { result ≡ narrowed self }
-    {
-        CKMS {
+        let last = u32::try_from(self.last).ok()?;
+        Some(CKMS {
             error: Fraction {
-                num: self.num as u32,
-                den: self.den as u32,
+                num: u32::try_from(self.num).ok()?,
+                den: u32::try_from(self.den).ok()?,
             },
-            n: self.n as u32,
-            held: self.held as u32,
-            blocks: self.blocks as u32,
-            inserts: self.inserts as u32,
-            last_in: last_beside(self.has_last, self.last as u32),
-            cma: cma_beside(self.has_mean, self.mean),
-        }
+            n: u32::try_from(self.n).ok()?,
+            held: u32::try_from(self.held).ok()?,
+            blocks: u32::try_from(self.blocks).ok()?,
+            inserts: u32::try_from(self.inserts).ok()?,
+            last_in: (self.has_last == 1).then_some(last),
+            cma: (self.has_mean == 1).then_some(Mean { value: self.mean }),
+        })
     }
+}
 
-    // The state of the words.
-    pub fn ckms(self) -> CKMS
-        ensures { result ≡ ckms_of self }
-    {
-        if self.fits() {
-            return self.narrowed();
+// The state of the words.
+impl From<CkmsWords> for CKMS {
+    ghost from_gives = { λ words ckms. ckms ≡ ckms_of words };
+
+    fn from(words: CkmsWords) -> CKMS {
+        if flag_fits(words.has_last, words.last == 0)
+            && flag_fits(words.has_mean, is_plus_zero(words.mean))
+        {
+            return words.narrowed().unwrap_or(misfit());
         }
         misfit()
     }

@@ -5,7 +5,7 @@ use Prim.Native.Nat.{ℕ, suc, ◌-◌, ◌≤◌}
 use mathlib.Core.List.{List, [], ◌∷◌, ◌++◌, append_assoc, append-nil, map-append}
 use native.Mathlib.Omega.{arith}
 use lib.ListN.{length, take, drop, replicate, length-append, length-take, length-drop, length-replicate}
-use lib.Seq.{drop-length, take_at, take-append-le, drop_at}
+use lib.Seq.{drop-length, take_at, drop_at}
 use Rattle.entries.specs.Entry.{entry, entry_of, entries_of}
 use Rattle.entries.specs.Lists.{put_at, layout, cleared}
 use Rattle.entries.proofs.Maps.{map_take, map_drop, map_put_at}
@@ -20,22 +20,12 @@ put_rows k held v g d rows rows' e =
     ap entries_of e ∙ map-append entry_of (put_at k (v ∷ g ∷ d ∷ []) (take held rows)) (drop (suc held) rows)
     ∙ rw (map_put_at entry_of k (v ∷ g ∷ d ∷ []) (take held rows), map_take entry_of held rows, map_drop entry_of (suc held) rows)
 
--- what is left in front of a list is no more than there was
-pub count_inside : {A : Type 0} (k : ℕ) (us es : List A) → take k us ≡ es → k ≡ length es → k ≤ length us
-count_inside k us es e f = omega (arith, length-take k us, ap length e)
-
 module _ {A : Type 0} (z : A) where
   -- every place zeroed
   pub cleared_all : (list : List A) → cleared z 0 (length list) list ≡ replicate (length list) z
   cleared_all list =
       let q : length list - 0 ≡ length list = omega arith in
       rw (q, drop-length list) (append-nil (replicate (length list) z))
-
-  -- zeroed behind the first k, which are what is held, in a list whose front was worked on
-  pub cleared_layout : (us es list : List A) (k most : ℕ) → length us ≡ most → take k us ≡ es → k ≡ length es
-      → cleared z k most (us ++ drop most list) ≡ layout z es most list
-  cleared_layout us es list k most l e f =
-      rw (take-append-le k us (drop most list) (count_inside k us es e f), drop_at us (drop most list) most l, e, f)
 
   module _ (es : List A) (most : ℕ) (list : List A) where
     -- the held part stands in front

@@ -6,6 +6,7 @@ pub mod Maps
 pub mod Order
 pub mod Parts
 pub mod Places
+pub mod Points
 pub mod Puts
 pub mod Rooms
 pub mod Sorting

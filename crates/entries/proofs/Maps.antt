@@ -41,16 +41,13 @@ module _ {A B : Type 0} (f : A → B) where
   pub map_layout : (z : A) (es : List A) (most : ℕ) (xs : List A) → map f (layout z es most xs) ≡ layout (f z) (map f es) most (map f xs)
   map_layout z es most xs = simp (map-append, map_drop, map_replicate, length-map)
 
--- the value in the row at i, and its g
+-- the value in the row at i
 pub value_at : (rows : List (List ℕ)) (i : ℕ) → get_or (values (entries_of rows)) i 0 ≡ get_or (get_or rows i []) 0 0
 value_at rows i =
     get_or-map (λ (e : Entry). e.v) (entries_of rows) i zero_entry ∙ ap (λ (e : Entry). e.v) (get_or-map entry_of rows i [])
 
 pub entry_at_lem : (rows : List (List ℕ)) (i : ℕ) → get_or (entries_of rows) i zero_entry ≡ entry_of (get_or rows i [])
 entry_at_lem rows i = get_or-map entry_of rows i []
-
-pub length_values : (rows : List (List ℕ)) → length (values (entries_of rows)) ≡ length rows
-length_values rows = length-map (entries_of rows) (λ (e : Entry). e.v) ∙ length-map rows entry_of
 
 pub values_take : (k : ℕ) (rows : List (List ℕ)) → values (entries_of (take k rows)) ≡ take k (values (entries_of rows))
 values_take k rows = ap values (map_take entry_of k rows) ∙ map_take (λ (e : Entry). e.v) k (entries_of rows)
@@ -91,7 +88,3 @@ sum_suc (e ∷ es) (suc i) h = omega (arith, sum_suc es i (omega arith))
 
 pub sum_more : (es : List Entry) (i : ℕ) → i < length es → sum_g (take (i + 1) es) ≡ sum_g (take i es) + (get_or es i zero_entry).g
 sum_more es i h = rw (add-one i) (sum_suc es i h)
-
--- the g in the row at i
-pub g_at : (rows : List (List ℕ)) (i : ℕ) → (get_or (entries_of rows) i zero_entry).g ≡ get_or (get_or rows i []) 1 0
-g_at rows i = ap (λ (e : Entry). e.g) (entry_at_lem rows i)

@@ -1,12 +1,11 @@
 -- Parts of a list of entries or rows: what is counted, summed and sorted in a list is so in its parts.
 -- Assumes nothing.
-use mathlib.Core.Path.{◌≡◌, refl, sym, ap, ◌∙◌}
-use Prim.Native.Nat.{ℕ, zero, suc, ◌+◌, ◌-◌, ◌≤◌, ◌<◌}
+use mathlib.Core.Path.{◌≡◌, sym, ap, ◌∙◌}
+use Prim.Native.Nat.{ℕ, suc, ◌+◌, ◌≤◌, ◌<◌}
 use mathlib.Core.List.{List, [], ◌∷◌}
-use native.Mathlib.Nat.{zero-sub, sub-zero, suc-sub-suc}
 use native.Mathlib.Omega.{arith}
-use lib.ListN.{length, get_or, set, take, drop, length-map, take-append-drop, drop_of_length-le}
-use lib.Seq.{length-take-le, take-nil, take-set-lt, drop-cons, slice}
+use lib.ListN.{length, get_or, take, drop, length-map, take-append-drop, drop_of_length-le}
+use lib.Seq.{drop-cons}
 use Rattle.entries.specs.declared.Entry.{Entry}
 use Rattle.entries.specs.Entry.{entry_of, entries_of, zero_entry, values, sum_g}
 use Rattle.entries.specs.Ranks.{Rising, below}
@@ -51,20 +50,3 @@ entries_end rows i h = drop_of_length-le (entries_of rows) {i = i} (omega (arith
 -- the entries of a part of rows are that part of their entries
 pub part_entries : (rows : List (List ℕ)) (from many : ℕ) → entries_of (take many (drop from rows)) ≡ take many (drop from (entries_of rows))
 part_entries rows from many = map_take entry_of many (drop from rows) ∙ ap (take many) (map_drop entry_of from rows)
-
-module _ {A : Type 0} where
-  -- a part by its length, and by its end
-  pub part_slice : (f t : ℕ) (l : List A) → take (t - f) (drop f l) ≡ slice f t l
-  part_slice zero t l = rw sub-zero
-  part_slice (suc f) zero l = rw zero-sub
-  part_slice (suc f) (suc t) [] = take-nil (suc t - suc f)
-  part_slice (suc f) (suc t) (x ∷ xs) = rw suc-sub-suc (part_slice f t xs)
-
-  -- a store at the head of a part
-  drop-set : (l : List A) (w : ℕ) (m : A) → w < length l → drop w (set l w m) ≡ m ∷ drop (suc w) l
-  drop-set [] w m h = absurd (omega arith)
-  drop-set (x ∷ xs) zero m h = refl
-  drop-set (x ∷ xs) (suc w) m h = drop-set xs w m (omega arith)
-
-  pub slice_set : (l : List A) (w held : ℕ) (m : A) → w < held → held ≤ length l → slice w held (set l w m) ≡ m ∷ slice (suc w) held l
-  slice_set l w held m h b = rw (take-set-lt held l w m h) (drop-set (take held l) w m (omega (arith, length-take-le held l b)))

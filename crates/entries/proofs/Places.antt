@@ -1,4 +1,4 @@
--- The laws of `place` and of `below` over sorted lists: what a scan, a halving by parts and a halving by bounds find.
+-- The laws of `place` and of `below` over sorted lists: what a scan finds, and how many are smaller.
 -- Assumes nothing.
 use mathlib.Core.Path.{◌≡◌, refl, ap}
 use Prim.Native.Nat.{ℕ, zero, suc, ◌+◌, ◌-◌, ◌≤◌, ◌<◌}
@@ -78,16 +78,11 @@ rising_drop low vs zero r = r
 rising_drop low [] (suc k) r = tt
 rising_drop low (v ∷ vs) (suc k) r = rising_lower low v (drop k vs) r.0 (rising_drop v vs k r.1)
 
--- the search by parts: a value that is not greater than x sends it behind
-pub place_back : (x : ℕ) (vs : List ℕ) (k : ℕ) → k < length vs → Rising 0 vs → get_or vs k 0 ≤ x → k + place x (drop k vs) ≡ place x vs
-place_back x vs k h r g =
-    place_passed x vs k (omega arith) (λ i b. omega (arith, rising_order 0 vs r i k (omega arith) h))
-
 -- a part that runs to the end, as the code's `&s[k..]` is given
 pub part_end : {A : Type 0} (xs : List A) (k : ℕ) → take (length xs - k) (drop k xs) ≡ drop k xs
 part_end xs k = take_all (length xs - k) (drop k xs) (omega (arith, length-drop k xs))
 
--- the search by bounds: up to a value that is smaller than x all are smaller, and from one that is not smaller none is
+-- up to a value that is smaller than x all are smaller, and from one that is not smaller none is
 all_smaller_suc : (low : ℕ) (vs : List ℕ) (k x : ℕ) → k < length vs → Rising low vs → get_or vs k 0 < x → below (take (suc k) vs) x ≡ suc k
 all_smaller_suc low [] k x h r g = absurd (omega arith)
 all_smaller_suc low (v ∷ vs) zero x h r g = omega (arith, below_one v x g)
@@ -101,15 +96,6 @@ pub none_smaller : (low : ℕ) (vs : List ℕ) (k x : ℕ) → k < length vs →
 none_smaller low [] k x h r g = absurd (omega arith)
 none_smaller low (v ∷ vs) zero x h r g = none_below x (v ∷ vs) x (g, r.1) (omega arith)
 none_smaller low (v ∷ vs) (suc k) x h r g = none_smaller v vs k x (omega arith) r.1 g
-
--- nothing is smaller behind the end
-pub none_behind : (vs : List ℕ) (k x : ℕ) → length vs ≤ k → below (drop k vs) x ≡ 0
-none_behind vs k x h = rw (drop_of_length-le vs h)
-
--- where the two meet
-pub smaller_met : (vs : List ℕ) (k j x : ℕ) → k ≡ j → below (take k vs) x ≡ k → below (drop j vs) x ≡ 0 → k ≡ below vs x
-smaller_met vs k j x e a b =
-    let q : below (drop k vs) x ≡ 0 = rw e b in omega (arith, below_split vs k x)
 
 -- the count of the smaller ones is the first place that is not smaller
 module _ (vs : List ℕ) (x : ℕ) (r : Rising 0 vs) where
@@ -130,27 +116,6 @@ module _ (vs : List ℕ) (x : ℕ) (r : Rising 0 vs) where
   below_there h =
       by_order (get_or vs (below vs x) 0) x
       (λ k. absurd (omega (arith, all_smaller 0 vs (below vs x) x h r k, below_split vs (below vs x + 1) x))) (λ k. k)
-
--- so a search by halving: all before `low` are smaller than x, and none from `high` on
-pub record Narrowed (vs : List ℕ) (x low high : ℕ) : Type 0 where
-  pub ordered : low ≤ high
-  pub before : below (take low vs) x ≡ low
-  pub behind : below (drop high vs) x ≡ 0
-
-module _ (vs : List ℕ) (x : ℕ) where
-  pub narrowed_none : (high : ℕ) → length vs ≤ high → Narrowed vs x 0 high
-  narrowed_none high h = record { ordered = omega arith; before = refl; behind = none_behind vs high x h }
-
-  pub narrowed_met : (low high : ℕ) → Narrowed vs x low high → high ≤ low → low ≡ below vs x
-  narrowed_met low high n h = smaller_met vs low high x (omega arith) n.before n.behind
-
-  -- a look at the value at m, between the two
-  module _ (low high m : ℕ) (n : Narrowed vs x low high) (r : Rising 0 vs) (h : m < length vs) where
-    pub narrowed_up : m < high → get_or vs m 0 < x → Narrowed vs x (m + 1) high
-    narrowed_up b g = record { ordered = omega arith; before = all_smaller 0 vs m x h r g; behind = n.behind }
-
-    pub narrowed_down : low ≤ m → x ≤ get_or vs m 0 → Narrowed vs x low m
-    narrowed_down b g = record { ordered = b; before = n.before; behind = none_smaller 0 vs m x h r g }
 
 -- the place is the count of those at most x
 pub place_counts : (low x : ℕ) (vs : List ℕ) → Rising low vs → place x vs ≡ upto vs x

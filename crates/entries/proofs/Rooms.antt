@@ -1,70 +1,49 @@
--- How a list looks while its elements from pos on move up by one place, and while places are zeroed, for any kind of element.
+-- How a list looks once its elements from a place on have moved up by one and a new one stands there, and once some of its places are cleared.
 -- Assumes nothing.
 use mathlib.Core.Path.{◌≡◌, refl, sym, ap, ◌∙◌}
-use mathlib.Core.List.{List, ◌∷◌, ◌++◌, append_assoc}
+use mathlib.Core.List.{List, [], ◌∷◌, ◌++◌, append_assoc}
 use Prim.Native.Nat.{ℕ, zero, suc, ◌+◌, ◌-◌, ◌≤◌, ◌<◌}
-use native.Mathlib.Omega.{arith}
 use native.Mathlib.Numerals.{add-one}
-use lib.ListN.{length, get_or, set, take, drop, replicate, length-append, length-replicate, get_or-append, take-append-drop, drop_of_length-le}
-use lib.Seq.{length-take-le, take-suc, take-take, drop-cons, set_at, get_or-take, append_snoc}
+use native.Mathlib.Omega.{arith}
+use lib.ListN.{length, get_or, set, take, drop, replicate, length-drop, length-replicate}
+use lib.Seq.{length-take-le, take-suc, take-take, set_at, paste}
+use borrow.Rule.Slice.PartMut.{put_mid}
+use Rattle.std.proofs.lemmas.List.{drop-take}
+use Rattle.std.proofs.lemmas.List.Edits.{paste_all}
+use Rattle.std.proofs.lemmas.Slice.{put_mid-paste}
 use Rattle.entries.specs.Lists.{put_at, cleared}
 
--- the elements from i on stand one place further up, and the one at i stands twice
-abbrev pub shifted : {A : Type 0} → ℕ → ℕ → List A → List A
-shifted i held xs = take (suc i) xs ++ (drop i (take held xs) ++ drop (suc held) xs)
+-- the elements from pos up to held copied one place up, and the new one stored over the first of them
+pub room_made : {A : Type 0} (xs : List A) (held pos : ℕ) (x : A) → pos ≤ held → held < length xs
+    → set (paste xs (pos + 1) (drop pos xs) (held - pos)) pos x ≡ put_at pos x (take held xs) ++ drop (suc held) xs
+room_made {A = A} xs held pos x b h =
+    let n : pos + (held - pos) ≡ held = omega arith in
+    let m : pos + 1 + (held - pos) ≡ suc held = omega arith in
+    let moved : take (held - pos) (drop pos xs) ≡ drop pos (take held xs) =
+    sym (drop-take pos (held - pos) xs) ∙ ap (λ (k : ℕ). drop pos (take k xs)) n in
+    let rest : List A = drop pos (take held xs) ++ drop (suc held) xs in
+    let cut : paste xs (pos + 1) (drop pos xs) (held - pos) ≡ take pos xs ++ get_or xs pos x ∷ rest =
+    rw (moved, m, add-one pos, take-suc xs pos x (omega arith))
+    (append_assoc (take pos xs ++ get_or xs pos x ∷ []) (drop pos (take held xs)) (drop (suc held) xs) ∙ append_assoc (take pos xs) (get_or xs pos x ∷ []) rest) in
+    rw (cut, set_at (take pos xs) (get_or xs pos x) rest x pos (length-take-le pos xs (omega arith)))
+    (rw (take-take pos held xs b) (sym (append_assoc (take pos xs) (x ∷ drop pos (take held xs)) (drop (suc held) xs))))
 
-module _ {A : Type 0} (d : A) (xs : List A) (held : ℕ) (h : held < length xs) where
-  pub shifted_none : xs ≡ shifted held held xs
-  shifted_none =
-      rw (drop_of_length-le (take held xs) {i = held} (omega (arith, length-take-le held xs (omega arith)))) (sym (take-append-drop (suc held) xs))
+take_all : {A : Type 0} (i : ℕ) (xs : List A) → length xs ≤ i → take i xs ≡ xs
+take_all zero [] h = refl
+take_all zero (x ∷ xs) h = absurd (omega arith)
+take_all (suc i) [] h = refl
+take_all (suc i) (x ∷ xs) h = ap (◌∷◌ x) (take_all i xs (omega arith))
 
-  -- cut around the element at i
-  shifted-cut : (i : ℕ) → i ≤ held → shifted i held xs ≡ take i xs ++ get_or xs i d ∷ (drop i (take held xs) ++ drop (suc held) xs)
-  shifted-cut i b = rw (take-suc xs i d (omega arith)) (append_snoc (take i xs) (get_or xs i d) (drop i (take held xs) ++ drop (suc held) xs))
-
-  shifted_at : (i : ℕ) → suc i ≤ held → get_or (shifted (suc i) held xs) i d ≡ get_or xs i d
-  shifted_at i b =
-      get_or-append (take (suc (suc i)) xs) _ d i (omega (arith, length-take-le (suc (suc i)) xs (omega arith))) ∙ get_or-take (suc (suc i)) xs i d (omega arith)
-
-  -- one step down
-  shifted_step : (i : ℕ) → suc i ≤ held → set (shifted (suc i) held xs) (suc i) (get_or xs i d) ≡ shifted i held xs
-  shifted_step i b =
-      rw (shifted-cut (suc i) b, set_at (take (suc i) xs) (get_or xs (suc i) d) (drop (suc i) (take held xs) ++ drop (suc held) xs) (get_or xs i d) (suc i) (length-take-le (suc i) xs (omega arith)))
-      (rw (drop-cons (take held xs) i d (omega (arith, length-take-le held xs (omega arith))), get_or-take held xs i d b))
-
-  -- the new element goes in
-  shifted-put : (pos : ℕ) (e : A) → pos ≤ held → set (shifted pos held xs) pos e ≡ put_at pos e (take held xs) ++ drop (suc held) xs
-  shifted-put pos e b =
-      rw (shifted-cut pos b, set_at (take pos xs) (get_or xs pos d) (drop pos (take held xs) ++ drop (suc held) xs) e pos (length-take-le pos xs (omega arith)), take-take pos held xs b)
-      (sym (append_assoc (take pos xs) (e ∷ drop pos (take held xs)) (drop (suc held) xs)))
-
-  -- a turn of the loop, and its end, for a list that is known by an equation
-  pub shifted_turn : (s : List A) (i : ℕ) → 0 < i → i ≤ held → s ≡ shifted i held xs → set s i (get_or s (i - 1) d) ≡ shifted (i - 1) held xs
-  shifted_turn s zero p b e = absurd (omega arith)
-  shifted_turn s (suc i) p b e =
-      let q : suc i - 1 ≡ i = omega arith in rw (q, e, shifted_at i b) (shifted_step i b)
-
-  pub shifted_done : (s : List A) (i pos : ℕ) (v : A) → pos ≤ i → i ≤ pos → i ≤ held → s ≡ shifted i held xs
-      → set s pos v ≡ put_at pos v (take held xs) ++ drop (suc held) xs
-  shifted_done s i pos v l g b e =
-      let q : i ≡ pos = omega arith in rw (e, q) (shifted-put pos v (omega arith))
-
--- one more at the end of a run is one more at its front
-replicate_more : {A : Type 0} (k : ℕ) (z : A) (ys : List A) → replicate k z ++ z ∷ ys ≡ replicate (suc k) z ++ ys
-replicate_more zero z ys = refl
-replicate_more (suc k) z ys = ap (◌∷◌ z) (replicate_more k z ys)
-
--- zeroing, place by place
-module _ {A : Type 0} (z : A) (xs : List A) (from : ℕ) where
-  pub cleared_none : xs ≡ cleared z from from xs
-  cleared_none = let q : from - from ≡ 0 = omega arith in rw q (sym (take-append-drop from xs))
-
-  pub cleared_turn : (s : List A) (i : ℕ) → from ≤ i → i < length xs → s ≡ cleared z from i xs → set s i z ≡ cleared z from (i + 1) xs
-  cleared_turn s i b h e =
-      let q : suc i - from ≡ suc (i - from) = omega arith in
-      let front : length (take from xs ++ replicate (i - from) z) ≡ i =
-      omega (arith, length-append (take from xs) (replicate (i - from) z), length-take-le from xs (omega arith), length-replicate (i - from) z) in
-      rw (e, drop-cons xs i z h, ← append_assoc (take from xs) (replicate (i - from) z) (get_or xs i z ∷ drop (suc i) xs))
-      (set_at (take from xs ++ replicate (i - from) z) (get_or xs i z) (drop (suc i) xs) z i front
-      ∙ append_assoc (take from xs) (replicate (i - from) z) (z ∷ drop (suc i) xs)
-      ∙ rw (add-one i, q) (ap (λ (l : List A). take from xs ++ l) (replicate_more (i - from) z (drop (suc i) xs))))
+-- a part whose every place was set to z, put back
+pub part_cleared : {A : Type 0} (z : A) (xs part : List A) (from to i : ℕ) → from ≤ to → to ≤ length xs
+    → length part ≡ length (take (to - from) (drop from xs)) → length (take (to - from) (drop from xs)) ≤ i → take i part ≡ replicate i z
+    → put_mid from (to - from) xs part ≡ cleared z from to xs
+part_cleared {A = A} z xs part from to i b h l m e =
+    let long : length part ≡ to - from = omega (arith, l, length-take-le (to - from) (drop from xs) (omega (arith, length-drop from xs)), length-drop from xs) in
+    let set_all : part ≡ replicate i z = sym (take_all i part (omega arith)) ∙ e in
+    let count : i ≡ to - from = omega (arith, ap length set_all, length-replicate i z, long) in
+    let n : from + (to - from) ≡ to = omega arith in
+    put_mid-paste from (to - from) xs part (replicate (to - from) z) (to - from) (set_all ∙ ap (λ (k : ℕ). replicate k z) count) refl
+    (sym (length-replicate (to - from) z))
+    ∙ paste_all xs from (replicate (to - from) z) (to - from) (sym (length-replicate (to - from) z))
+    ∙ ap (λ (k : ℕ). take from xs ++ (replicate (to - from) z ++ drop k xs)) n

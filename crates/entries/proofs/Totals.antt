@@ -2,11 +2,14 @@
 -- Assumes nothing.
 use mathlib.Core.Path.{◌≡◌, refl, sym, ap, ◌∙◌}
 use Prim.Native.Nat.{ℕ, zero, suc, ◌+◌, ◌≤◌, ◌<◌}
-use mathlib.Core.List.{List, [], ◌∷◌, ◌++◌}
-use native.Mathlib.Numerals.{add-one}
+use mathlib.Core.List.{List, [], ◌∷◌, ◌++◌, map}
 use native.Mathlib.Omega.{arith}
 use lib.ListN.{length, get_or, set, take, drop, replicate, take-append-drop}
-use lib.Seq.{take-suc, take-add}
+use lib.Seq.{take-add}
+use Rattle.std.specs.List.{sum_by}
+use Rattle.std.proofs.lemmas.List.Sums.{sum_by-cons}
+use Rattle.entries.specs.declared.Entry.{Entry}
+use Rattle.entries.specs.Entry.{sum_g}
 use Rattle.entries.specs.Lists.{put_at}
 use Rattle.entries.specs.Total.{total}
 
@@ -21,10 +24,6 @@ total_split k xs = sym (ap total (take-append-drop k xs)) ∙ total_append (take
 -- a part, and the next one
 pub total_cut : (xs : List ℕ) (a b : ℕ) → total (take (a + b) xs) ≡ total (take a xs) + total (take b (drop a xs))
 total_cut xs a b = rw (take-add a b xs) (total_append (take a xs) (take b (drop a xs)))
-
--- one more number in a running sum
-pub total_more : (xs : List ℕ) (i : ℕ) → i < length xs → total (take (i + 1) xs) ≡ total (take i xs) + get_or xs i 0
-total_more xs i h = rw (add-one i, take-suc xs i 0 h) (omega (arith, total_append (take i xs) (get_or xs i 0 ∷ [])))
 
 -- a part adds up to no more than the whole
 pub total_take : (k : ℕ) (xs : List ℕ) → total (take k xs) ≤ total xs
@@ -48,3 +47,8 @@ total_set (suc k) (x ∷ xs) h = omega (arith, total_set k xs (omega arith))
 -- a number put in
 pub total_put : (k x : ℕ) (xs : List ℕ) → total (put_at k x xs) ≡ x + total xs
 total_put k x xs = omega (arith, total_append (take k xs) (x ∷ drop k xs), total_split k xs)
+
+-- the sum of an iterator over the places of a list, said of their entries
+pub sum_by_g : {A : Type 0} (f : A → Entry) (xs : List A) → sum_by (λ x. (f x).g) xs ≡ sum_g (map f xs)
+sum_by_g f [] = refl
+sum_by_g f (x ∷ xs) = sum_by-cons (λ y. (f y).g) x xs ∙ ap (λ n. (f x).g + n) (sum_by_g f xs)

@@ -1,8 +1,9 @@
 // Entries of a summary, and the work on lent lists of them that every module shares.
 #![tactic(auto)]
 
-ghost use Rattle.std.specs.Prelude.{◌≡◌, ◌≤◌, length};
-ghost use Rattle.entries.specs.Entry.{row_of, entry_of, entries_of, sum_g};
+ghost use Rattle.std.specs.Prelude.{◌≡◌, ◌≤◌, length, map};
+ghost use Rattle.entries.specs.Entry.{entry_of, sum_g};
+ghost use Rattle.entries.specs.declared.Entry.{Entry};
 ghost use Rattle.entries.specs.Promises.{Promises};
 
 // v is an observation; g says how many ranks lie between the entry before and this one; delta how unsure its rank is.
@@ -13,36 +14,54 @@ pub struct Entry {
     pub delta: u32,
 }
 
-// The row [v, g, delta] of an entry.
-pub fn row_of(e: Entry) -> [u32; 3]
-    ensures { result ≡ row_of e }
-{
-    [e.v, e.g, e.delta]
+// A place of a lent list: it holds an entry, and its type says how.
+pub trait Slot: Copy {
+    // The entry that stands in it.
+    ghost entry: { Self → Entry };
+
+    fn entry(self) -> Entry
+        ensures { result ≡ entry self };
+
+    // A place with the entry e in it.
+    fn holding(e: Entry) -> Self
+        ensures { entry result ≡ e };
 }
 
-// The entry of a row.
-pub fn entry_of(row: [u32; 3]) -> Entry
-    ensures { result ≡ entry_of row }
-{
-    Entry {
-        v: row[0],
-        g: row[1],
-        delta: row[2],
+impl Slot for Entry {
+    ghost entry = { λ e. e };
+
+    fn entry(self) -> Entry {
+        self
+    }
+
+    fn holding(e: Entry) -> Entry {
+        e
+    }
+}
+
+// A row [v, g, delta].
+impl Slot for [u32; 3] {
+    ghost entry = { entry_of };
+
+    fn entry(self) -> Entry {
+        Entry {
+            v: self[0],
+            g: self[1],
+            delta: self[2],
+        }
+    }
+
+    fn holding(e: Entry) -> [u32; 3] {
+        [e.v, e.g, e.delta]
     }
 }
 
 // The sum of the g.
-pub fn sum_g(rows: &[[u32; 3]]) -> u64
-    requires { length rows.now ≤ 65536 }
-    ensures { result ≡ sum_g (entries_of rows.now) }
+pub fn sum_g<T: Slot>(places: &[T]) -> u64
+    requires { length places.now ≤ 65536 }
+    ensures { result ≡ sum_g (map T.entry places.now) }
 {
-    let mut sum: u64 = 0;
-    let mut i = 0;
-    while i < rows.len() {
-        sum += fraction::wide(rows[i][1]);
-        i += 1;
-    }
-    sum
+    places.iter().map(|place| u64::from(place.entry().g)).sum()
 }
 
 // What is shown of sorting, of ranks and of rows. The theorems are in proofs/; this contract states them, so that none can go missing.

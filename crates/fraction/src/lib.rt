@@ -2,7 +2,7 @@
 // Every function takes any words: what no rule speaks of is answered by its definition in specs/, and nothing traps.
 #![tactic(auto)]
 
-ghost use Rattle.std.specs.Prelude.{◌≡◌, ◌<◌, ◌^◌};
+ghost use Rattle.std.specs.Prelude.{◌≡◌};
 ghost use Rattle.fraction.specs.Allowed.{is_epsilon, is_error, is_phi, denominators};
 
 // A fraction by value: numerator over denominator, lowest terms not required.
@@ -10,13 +10,6 @@ ghost use Rattle.fraction.specs.Allowed.{is_epsilon, is_error, is_phi, denominat
 pub struct Fraction {
     pub num: u32,
     pub den: u32,
-}
-
-// A u32 as a u64, with its bound in the contract: a caller then owes nothing for the cast, and knows the bound.
-pub fn wide(x: u32) -> u64
-    ensures { (result ≡ x) × (result < 2 ^ 32) }
-{
-    x as u64
 }
 
 impl Fraction {
@@ -37,38 +30,20 @@ impl Fraction {
     pub fn is_phi(self) -> bool
         ensures { result ≡ is_phi self }
     {
-        if self.den < 1 {
-            return false;
-        }
-        if Fraction::DENOMINATOR < self.den {
-            return false;
-        }
-        self.num <= self.den
+        1 <= self.den && self.den <= Fraction::DENOMINATOR && self.num <= self.den
     }
 
     // Whether it may be a stream's ε: above 0, and at most 1/2.
     pub fn is_epsilon(self) -> bool
         ensures { result ≡ is_epsilon self }
     {
-        if self.is_phi() {
-            if self.num < 1 {
-                return false;
-            }
-            return 2 * wide(self.num) <= wide(self.den);
-        }
-        false
+        self.is_phi() && 1 <= self.num && 2 * u64::from(self.num) <= u64::from(self.den)
     }
 
     // Whether it may be a CKMS error: above 0, and below 1.
     pub fn is_error(self) -> bool
         ensures { result ≡ is_error self }
     {
-        if self.is_phi() {
-            if self.num < 1 {
-                return false;
-            }
-            return self.num < self.den;
-        }
-        false
+        self.is_phi() && 1 <= self.num && self.num < self.den
     }
 }

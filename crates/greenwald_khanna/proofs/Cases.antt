@@ -1,5 +1,6 @@
 -- What an answer says of the tests before it, and the tests of the answer.
 -- Assumes nothing.
+use Rattle.std.specs.Prelude.{Ok}
 use mathlib.Core.Path.{◌≡◌}
 use Prim.Native.Nat.{ℕ, suc}
 use mathlib.Core.Bool.{true}
@@ -19,13 +20,11 @@ use Rattle.greenwald_khanna_steps.specs.Steps.{after, stream_of}
 use Rattle.greenwald_khanna_steps.specs.Limits.{observations, slots_ok}
 use Rattle.greenwald_khanna_steps.specs.Sound.{sound, state_of}
 use Rattle.greenwald_khanna_steps.specs.Steps.{Accepts}
-use Rattle.greenwald_khanna.specs.declared.Inserted.TheVariants.{Taken}
-use Rattle.greenwald_khanna_told.specs.declared.Answer.TheVariants as asking
 use Rattle.greenwald_khanna.specs.Answers.{inserted, inserted_list, value_of, quantiled}
 use Rattle.greenwald_khanna_theory.specs.State.{quantile}
 
 module _ (st : Stream) (list : List Entry) (x : ℕ) where
-  pub taken_passes : (next : Stream) → inserted st list x ≡ Taken next → Accepts st list × (next ≡ stream_of st.epsilon (after st list x))
+  pub taken_passes : (next : Stream) → inserted st list x ≡ Ok next → Accepts st list × (next ≡ stream_of st.epsilon (after st list x))
   unfolding inserted
   taken_passes next e =
       let t = both_passed (slots_ok (length list)) (sound st list) e (λ z. differ (cc)) (λ z. differ (cc)) in
@@ -40,19 +39,19 @@ module _ (st : Stream) (list : List Entry) (x : ℕ) where
         cc d.1,
       )
 
-  pub passes_taken : Accepts st list → inserted st list x ≡ Taken (stream_of st.epsilon (after st list x))
+  pub passes_taken : Accepts st list → inserted st list x ≡ Ok (stream_of st.epsilon (after st list x))
   unfolding inserted
   passes_taken p =
       rw (p.slots, p.unharmed, lt-leb observations st.n p.count, lt-leb (length list) st.held p.room)
 
   -- the list after an accepted insert
-  pub taken_list : (next : Stream) → inserted st list x ≡ Taken next
+  pub taken_list : (next : Stream) → inserted st list x ≡ Ok next
       → inserted_list st list x ≡ layout zero_entry (after st list x).entries (suc st.held) list
   taken_list next e = rw e
 
 -- a quantile: its tests, and the value found
-pub value_passes : (st : Stream) (list : List Entry) (φ : Fraction) (v : ℕ) → quantiled st list φ ≡ asking.Value v
-    → (slots_ok (length list) ≡ true) × (sound st list ≡ true) × (is_phi φ ≡ true) × (value_of (quantile st.epsilon (state_of st list) φ) ≡ asking.Value v)
+pub value_passes : (st : Stream) (list : List Entry) (φ : Fraction) (v : ℕ) → quantiled st list φ ≡ Ok v
+    → (slots_ok (length list) ≡ true) × (sound st list ≡ true) × (is_phi φ ≡ true) × (value_of (quantile st.epsilon (state_of st list) φ) ≡ Ok v)
 unfolding quantiled
 value_passes st list φ v e =
     let t = both_passed (slots_ok (length list)) (sound st list) e (λ z. differ (cc)) (λ z. differ (cc)) in

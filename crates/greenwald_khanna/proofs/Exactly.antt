@@ -1,5 +1,6 @@
 -- Each refusal is given exactly when its test fails and the tests before it pass.
 -- Assumes nothing.
+use Rattle.std.specs.Prelude.{Ok, Err}
 use mathlib.Core.Path.{◌≡◌, ap, ◌∙◌}
 use Prim.Native.Nat.{ℕ, ◌<◌}
 use mathlib.Core.Bool.{Bool, true, not}
@@ -22,7 +23,6 @@ use Rattle.greenwald_khanna_steps.specs.Steps.{after, stream_of}
 use Rattle.greenwald_khanna_steps.specs.Limits.{observations, slots_ok}
 use Rattle.greenwald_khanna_steps.specs.Sound.{sound, state_of}
 use Rattle.greenwald_khanna_steps.proofs.Sounds.{sound_facts}
-use Rattle.greenwald_khanna_told.specs.declared.Answer.TheVariants.{Value, Refused}
 use Rattle.greenwald_khanna_steps.specs.Opening.{opened}
 use Rattle.greenwald_khanna.specs.Answers.{inserted, value_of, quantiled}
 use Rattle.greenwald_khanna.specs.Refusals.{OpenExactly, InsertExactly, QuantileExactly}
@@ -71,11 +71,11 @@ insert_exactly st list x =
     }
 
 -- a value is found, or EMPTY is the answer
-value_apart : (o : Option ℕ) (why : Refusal) → (Empty ≡ why → ⊥) → value_of o ≡ Refused why → ⊥
+value_apart : (o : Option ℕ) (why : Refusal) → (Empty ≡ why → ⊥) → value_of o ≡ Err why → ⊥
 value_apart none why n e = n (cc)
 value_apart (some v) why n e = differ (cc)
 
-value_none : (o : Option ℕ) → value_of o ≡ Refused Empty → o ≡ none
+value_none : (o : Option ℕ) → value_of o ≡ Err Empty → o ≡ none
 value_none none e = cc
 value_none (some v) e = absurd (differ (cc))
 
@@ -91,12 +91,12 @@ nothing st list φ h k e =
     (λ z. omega arith)
 
 something : (st : Stream) (list : List Entry) (φ : Fraction) → sound st list ≡ true → (v : ℕ)
-    → value_of (quantile st.epsilon (state_of st list) φ) ≡ Value v → 0 < st.n
+    → value_of (quantile st.epsilon (state_of st list) φ) ≡ Ok v → 0 < st.n
 something st list φ h v e =
     by_order 0 st.n
     (λ one. one)
     (λ z.
-    let no : value_of (quantile st.epsilon (state_of st list) φ) ≡ Refused Empty =
+    let no : value_of (quantile st.epsilon (state_of st list) φ) ≡ Err Empty =
     ap value_of (quantile_none st.epsilon (state_of st list) φ (sound_facts st list h).entries (omega arith)) in
     absurd (differ (cc (e, no))))
 

@@ -1,5 +1,6 @@
 -- An accepted insert leaves a sound stream, explained by the observation added; a fresh stream is sound; a quantile is within the ranks.
 -- Assumes nothing.
+use Rattle.std.specs.Prelude.{Ok}
 use mathlib.Core.Path.{◌≡◌, refl, sym, ap, subst}
 use Prim.Native.Nat.{ℕ, suc, ◌≤◌}
 use mathlib.Core.Bool.{true}
@@ -22,7 +23,6 @@ use Rattle.greenwald_khanna_steps.specs.Sound.{sound, state_of}
 use Rattle.greenwald_khanna_steps.specs.Steps.{Accepts}
 use Rattle.greenwald_khanna_steps.proofs.Lengths.{insert_length, insert_count}
 use Rattle.greenwald_khanna_steps.proofs.Sounds.{Facts, sound_facts, facts_sound}
-use Rattle.greenwald_khanna.specs.declared.Inserted.TheVariants.{Taken}
 use Rattle.greenwald_khanna.specs.Answers.{inserted, inserted_list}
 use Rattle.greenwald_khanna.proofs.Cases.{taken_passes, taken_list}
 
@@ -66,7 +66,7 @@ module _ (st : Stream) (before : List Entry) (x : ℕ) (p : Accepts st before) w
       }
 
 -- the same, said of the answer and of the list by their definitions
-pub inserted_kept : (st : Stream) (before : List Entry) (x : ℕ) (next : Stream) → inserted st before x ≡ Taken next
+pub inserted_kept : (st : Stream) (before : List Entry) (x : ℕ) (next : Stream) → inserted st before x ≡ Ok next
     → Kept st before x next (inserted_list st before x)
 inserted_kept st before x next e =
     let t = taken_passes st before x next e in

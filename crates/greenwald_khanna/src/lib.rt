@@ -1,71 +1,48 @@
-// The Greenwald-Khanna stream over a lent list of rows [v, g, delta], refusals included. Nothing in a state is trusted: every call tests the
+// The Greenwald-Khanna stream over a lent list of rows [v, g, delta] or of entries, refusals included. Nothing in a state is trusted: every call tests the
 // lent list's length, then whether state and list are sound.
 #![tactic(auto)]
 
-ghost use Rattle.entries.specs.Entry.{entries_of};
+ghost use Rattle.std.specs.Prelude.{map};
 ghost use Rattle.greenwald_khanna.specs.Posts.{InsertPost, QuantilePost};
 ghost use Rattle.greenwald_khanna.specs.Promises.{Promises};
 
+use entries::Slot;
 use fraction::Fraction;
 use refusal::Refusal;
 
-// The stream's type, with its limits and its opening, and what opening answers.
-pub use greenwald_khanna_steps::{Opened, Stream};
+// The stream's type, with its limits and its opening.
+pub use greenwald_khanna_steps::Stream;
 
-// What a stream tells of itself, and what a question answers.
-pub use greenwald_khanna_told::{Answer, n, p, s};
-
-// What an insert answers: the stream after it, or why not.
-#[derive(Clone, Copy)]
-pub enum Inserted {
-    Taken(Stream),
-    Refused(Refusal),
-}
+// What a stream tells of itself.
+pub use greenwald_khanna_told::{n, p, s};
 
 // One observation more. Refused: SLOTS, DAMAGED, COUNT, FULL.
-pub fn insert(stream: Stream, rows: &mut [[u32; 3]], v: u32) -> Inserted
-    ensures { InsertPost stream (entries_of rows.old) v result (entries_of rows.new) }
+pub fn insert<T: Slot>(stream: Stream, list: &mut [T], v: u32) -> Result<Stream, Refusal>
+    ensures { InsertPost stream (map T.entry list.old) v result (map T.entry list.new) }
 {
-    let slots = rows.len();
-    if slots < 1 {
-        return Inserted::Refused(Refusal::Slots);
+    stream.check(list)?;
+    if Stream::OBSERVATIONS <= stream.n {
+        return Err(Refusal::Count);
     }
-    if Stream::SLOTS < slots {
-        return Inserted::Refused(Refusal::Slots);
+    if list.len() <= stream.held as usize {
+        return Err(Refusal::Full);
     }
-    if stream.is_sound(rows) {
-        if Stream::OBSERVATIONS <= stream.n {
-            return Inserted::Refused(Refusal::Count);
-        }
-        if slots <= stream.held as usize {
-            return Inserted::Refused(Refusal::Full);
-        }
-        return Inserted::Taken(stream.take(rows, v));
-    }
-    Inserted::Refused(Refusal::Damaged)
+    Ok(stream.take(list, v))
 }
 
 // The φ-quantile. Refused: SLOTS, DAMAGED, PHI, EMPTY.
-pub fn quantile(stream: Stream, rows: &[[u32; 3]], phi: Fraction) -> Answer
-    ensures { QuantilePost stream (entries_of rows.now) phi result }
+pub fn quantile<T: Slot>(stream: Stream, list: &[T], phi: Fraction) -> Result<u32, Refusal>
+    ensures { QuantilePost stream (map T.entry list.now) phi result }
 {
-    let slots = rows.len();
-    if slots < 1 {
-        return Answer::Refused(Refusal::Slots);
+    stream.check(list)?;
+    if !phi.is_phi() {
+        return Err(Refusal::Phi);
     }
-    if Stream::SLOTS < slots {
-        return Answer::Refused(Refusal::Slots);
+    if stream.held == 0 {
+        return Err(Refusal::Empty);
     }
-    if stream.is_sound(rows) {
-        if phi.is_phi() {
-            if stream.held < 1 {
-                return Answer::Refused(Refusal::Empty);
-            }
-            return Answer::Value(stream.at_rank(rows, products::floor_mul(phi, stream.n)));
-        }
-        return Answer::Refused(Refusal::Phi);
-    }
-    Answer::Refused(Refusal::Damaged)
+    let rank = products::floor_mul(phi, stream.n);
+    Ok(stream.at_rank(list, rank))
 }
 
 // The theorems about the definitions are in proofs/. This contract states them, so that none can go missing.

@@ -1,1 +1,4 @@
+pub mod InReach
 pub mod Promises
+pub mod Questions
+pub mod Reach

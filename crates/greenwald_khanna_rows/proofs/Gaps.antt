@@ -1,91 +1,66 @@
--- Closing the gap, turn by turn, and how the three passes make `CompressPost`.
+-- How the backward pass, the move down and the zeroing make `CompressPost`.
 -- Assumes nothing.
 use mathlib.Core.Path.{◌≡◌, refl, sym, ap, ◌∙◌}
-use Prim.Native.Nat.{ℕ, zero, suc, ◌+◌, ◌-◌, ◌≤◌, ◌<◌}
-use mathlib.Core.List.{List, [], ◌∷◌, map, map-append}
-use native.Mathlib.Numerals.{add-one}
+use Prim.Native.Nat.{ℕ, ◌+◌, ◌-◌, ◌<◌}
+use mathlib.Core.List.{List, [], ◌∷◌, ◌++◌, map, map-append, append-nil}
 use native.Mathlib.Omega.{arith}
-use lib.ListN.{length, get_or, set, take, drop, length-drop, length-map}
-use lib.Seq.{get_or-drop, drop-drop, take-suc, paste, paste-suc, take-paste, drop-paste, slice, slice-cons, length-slice}
+use lib.ListN.{length, take, drop, replicate, length-drop, length-map}
+use lib.Seq.{take-suc, take-paste, take_all, drop-cons, length-paste}
+use Rattle.std.specs.List.{copy_within}
+use Rattle.std.proofs.lemmas.List.{drop_all}
 use Rattle.entries.specs.declared.Entry.{Entry}
-use Rattle.entries.specs.Entry.{row_of, entry_of, entries_of, zero_entry}
-use Rattle.entries.specs.Lists.{layout, cleared}
+use Rattle.entries.specs.Entry.{zero_entry}
+use Rattle.entries.specs.Lists.{cleared}
 use Rattle.entries.proofs.Maps.{map_take, map_drop, map_cleared}
-use Rattle.entries.proofs.Parts.{part_slice}
 use Rattle.greenwald_khanna_theory.specs.Summary.{merged, compress}
-use Rattle.greenwald_khanna_rows.specs.Compress.{at, MergedFrom, moved_down, CompressPost}
-
-module _ {A : Type 0} (d : List A) (w : ℕ) (z : A) where
-  -- what the copy down reads is not written yet
-  unread : (j : ℕ) → 0 < w → w + j < length d → get_or (paste d 1 (drop w d) j) (w + j) z ≡ get_or (drop w d) j z
-  unread j p h =
-      let n : 1 + j + (w - 1) ≡ w + j = omega arith in
-      ap (λ (k : ℕ). get_or (paste d 1 (drop w d) j) k z) (sym n)
-      ∙ sym (get_or-drop (1 + j) (paste d 1 (drop w d) j) (w - 1) z)
-      ∙ ap (λ (l : List A). get_or l (w - 1) z) (drop-paste d 1 (drop w d) j (omega arith) (omega (arith, length-drop w d)))
-      ∙ get_or-drop (1 + j) d (w - 1) z
-      ∙ ap (λ (k : ℕ). get_or d k z) n
-      ∙ sym (get_or-drop w d j z)
-
-  -- a turn of the loop, for a list that is known by an equation
-  pub moved_turn : (j : ℕ) (s : List A) → 0 < w → w + j < length d → s ≡ paste d 1 (drop w d) j
-      → set s (1 + j) (get_or s (w + j) z) ≡ paste d 1 (drop w d) (j + 1)
-  moved_turn j s p h e = rw (e, unread j p h, add-one j) (paste-suc d 1 (drop w d) j z (omega arith) (omega (arith, length-drop w d)))
+use Rattle.greenwald_khanna_rows.specs.Compress.{at, MergedFrom, CompressPost}
 
 -- moving down, said of the entries
-map_moved : {A B : Type 0} (f : A → B) (w held : ℕ) (xs : List A) → map f (moved_down w held xs) ≡ moved_down w held (map f xs)
+map_moved : {A B : Type 0} (f : A → B) (w held : ℕ) (xs : List A) → map f (copy_within xs w held 1) ≡ copy_within (map f xs) w held 1
 map_moved f w held xs = simp (map-append, map_take, map_drop)
 
--- after the backward pass from es to fs and the move down: what is held, what stands behind it, and the zeroing
-module _ (p held : ℕ) (es fs : List Entry) (w : ℕ) (h : 1 < held) (b : held ≤ length es) (z : MergedFrom p held es 1 w fs) where
-  whole : compress p (take held es) ≡ at es 0 ∷ slice w held fs
+-- after the backward pass from es to fs and the move down: what is held, and the zeroing behind it
+module _ (p : ℕ) (es fs : List Entry) (w : ℕ) (h : 1 < length es) (z : MergedFrom p es 1 w fs) where
+  whole : compress p es ≡ at es 0 ∷ drop w fs
   unfolding compress
-  whole = rw (slice-cons 0 held es zero_entry (omega arith) b) (ap (λ (l : List Entry). at es 0 ∷ l) (sym z.done))
+  whole = ap (compress p) (drop-cons es 0 zero_entry (omega arith)) ∙ ap (λ (l : List Entry). at es 0 ∷ l) (sym z.done)
 
-  counted : 1 + (held - w) ≡ length (compress p (take held es))
-  counted = rw (whole, length-slice w held fs (omega (arith, z.same_length))) (omega arith)
+  counted : 1 + (length es - w) ≡ length (compress p es)
+  counted = rw (whole, length-drop w fs, z.same_length) (omega arith)
 
   head : take 1 fs ≡ at es 0 ∷ []
   head = z.front ∙ take-suc es 0 zero_entry (omega arith)
 
-  left : take (1 + (held - w)) (moved_down w held fs) ≡ compress p (take held es)
+  left : take (1 + (length es - w)) (copy_within fs w (length es) 1) ≡ compress p es
   left =
-      let t = take-paste fs 1 (drop w fs) (held - w) (omega (arith, z.same_length)) (omega (arith, length-drop w fs, z.same_length)) in
-      rw (t, whole, head, part_slice w held fs)
+      let t = take-paste fs 1 (drop w fs) (length es - w) (omega (arith, z.same_length)) (omega (arith, length-drop w fs, z.same_length)) in
+      rw (t, whole, head, take_all (length es - w) (drop w fs) (omega (arith, length-drop w fs, z.same_length)))
 
-  behind : drop held (moved_down w held fs) ≡ drop held es
-  behind =
-      let n : 1 + (held - w) + (w - 1) ≡ held = omega (arith, z.order, z.high) in
-      let l : List Entry = moved_down w held fs in
-      ap (λ (k : ℕ). drop k l) (sym n)
-      ∙ sym (drop-drop (w - 1) (1 + (held - w)) l)
-      ∙ ap (drop (w - 1)) (drop-paste fs 1 (drop w fs) (held - w) (omega (arith, z.same_length)) (omega (arith, length-drop w fs, z.same_length)))
-      ∙ drop-drop (w - 1) (1 + (held - w)) fs
-      ∙ ap (λ (k : ℕ). drop k fs) n
-      ∙ z.rest
+  laid : cleared zero_entry (1 + (length es - w)) (length es) (copy_within fs w (length es) 1)
+      ≡ compress p es ++ replicate (length es - length (compress p es)) zero_entry
+  laid =
+      let long = length-paste fs 1 (drop w fs) (length es - w) (omega (arith, z.order, z.high, z.same_length)) (omega (arith, length-drop w fs, z.same_length)) in
+      rw (left, drop_all (length es) (copy_within fs w (length es) 1) (omega (arith, long, z.same_length)), ← counted, append-nil)
 
-  laid : cleared zero_entry (1 + (held - w)) held (moved_down w held fs) ≡ layout zero_entry (compress p (take held es)) held es
-  laid = rw (left, behind, ← counted)
-
--- the three passes, over rows
-pub all : (p held w : ℕ) (xs ys us vs : List (List ℕ)) → 1 < held → held ≤ length xs → MergedFrom p held (entries_of xs) 1 w (entries_of ys)
-    → us ≡ moved_down w held ys → vs ≡ cleared (row_of zero_entry) (1 + (held - w)) held us → CompressPost p held xs (1 + (held - w)) vs
-all p held w xs ys us vs h b z e f =
-    let c : held ≤ length (entries_of xs) = omega (arith, length-map xs entry_of) in
+-- the three steps, over a list where f tells the entry in a place and `free` is what a freed place holds
+pub all : {A : Type 0} (f : A → Entry) (p w : ℕ) (xs ys us vs : List A) (free : A) → 1 < length xs → MergedFrom p (map f xs) 1 w (map f ys)
+    → us ≡ copy_within ys w (length ys) 1 → vs ≡ cleared free (1 + (length xs - w)) (length xs) us → f free ≡ zero_entry
+    → CompressPost p (map f xs) (1 + (length xs - w)) (map f vs)
+all f p w xs ys us vs free h z e d q =
+    let n = length-map xs f in
+    let m : length ys ≡ length (map f xs) = sym (length-map ys f) ∙ z.same_length in
+    let c : 1 < length (map f xs) = omega (arith, n) in
     record {
-      count = rw (map_take entry_of held xs) (counted p held (entries_of xs) (entries_of ys) w h c z);
+      count = rw (← n) (counted p (map f xs) (map f ys) w c z);
       list =
-          rw (map_take entry_of held xs)
-          (ap entries_of f
-          ∙ map_cleared entry_of (row_of zero_entry) (1 + (held - w)) held us
-          ∙ ap (λ (l : List Entry). cleared zero_entry (1 + (held - w)) held l) (ap entries_of e ∙ map_moved entry_of w held ys)
-          ∙ laid p held (entries_of xs) (entries_of ys) w h c z);
+          ap (map f) d
+          ∙ map_cleared f free (1 + (length xs - w)) (length xs) us
+          ∙ rw (q, e, map_moved f w (length ys) ys, m, ← n) (laid p (map f xs) (map f ys) w c z);
     }
 
--- fewer than two rows: nothing to do
-pub short : (p held : ℕ) (xs : List (List ℕ)) → held < 2 → held ≤ length xs → CompressPost p held xs held xs
+-- fewer than two entries: nothing to do
+pub short : (p : ℕ) (es : List Entry) → length es < 2 → CompressPost p es (length es) es
 unfolding compress merged
-short p zero xs h b = record { count = refl; list = refl }
-short p (suc zero) [] h b = absurd (omega arith)
-short p (suc zero) (x ∷ xs) h b = record { count = refl; list = refl }
-short p (suc (suc k)) xs h b = absurd (omega arith)
+short p [] h = record { count = refl; list = refl }
+short p (x ∷ []) h = record { count = refl; list = refl }
+short p (x ∷ (y ∷ es)) h = absurd (omega arith)

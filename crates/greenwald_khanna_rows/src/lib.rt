@@ -1,85 +1,75 @@
-// The compression of the Greenwald-Khanna stream over rows [v, g, delta], equal to its definition over entries.
+// The compression of the Greenwald-Khanna stream over a list, equal to its definition over entries.
 #![tactic(auto)]
 
-ghost use Rattle.std.specs.Prelude.{◌≡◌, ◌+◌, ◌≤◌, ◌<◌, ◌^◌, length};
-ghost use Rattle.entries.specs.Entry.{entry_of, entries_of};
+ghost use Rattle.std.specs.Prelude.{◌≡◌, ◌+◌, ◌<◌, ◌^◌, length, map};
 ghost use Rattle.greenwald_khanna_theory.specs.Summary.{mergeable};
-ghost use Rattle.greenwald_khanna_rows.specs.Compress.{joined, TurnPost, MergedFrom, moved_down, CompressPost};
+ghost use Rattle.greenwald_khanna_rows.specs.Compress.{joined, TurnPost, MergedFrom, CompressPost};
 
-use fraction::wide;
+use entries::{Entry, Slot};
 
-// Whether the row e may be deleted, its g going to the row next behind it.
-fn mergeable(e: [u32; 3], next: [u32; 3], p: u32) -> bool
-    ensures { result ≡ mergeable p (entry_of e) (entry_of next) }
+// Whether the entry e may be deleted, its g going to the entry next behind it.
+fn mergeable(e: Entry, next: Entry, p: u32) -> bool
+    ensures { result ≡ mergeable p e next }
 {
-    if wide(e[1]) + wide(next[1]) + wide(next[2]) < wide(p) {
-        return products::band(p, e[2]) <= products::band(p, next[2]);
+    u64::from(e.g) + u64::from(next.g) + u64::from(next.delta) < u64::from(p)
+        && products::band(p, e.delta) <= products::band(p, next.delta)
+}
+
+// The entry next with the g of e added.
+fn merge(e: Entry, next: Entry) -> Entry
+    requires { e.g + next.g < 2 ^ 32 }
+    ensures { result ≡ joined e next }
+{
+    Entry {
+        g: e.g + next.g,
+        ..next
     }
-    false
 }
 
-// The row next with the g of e added.
-fn merge(e: [u32; 3], next: [u32; 3]) -> [u32; 3]
-    requires { (entry_of e).g + (entry_of next).g < 2 ^ 32 }
-    ensures { entry_of result ≡ joined (entry_of e) (entry_of next) }
+// One turn: the entry at i goes into the one at w, or is put before it. The answer is the place of the first entry that is done.
+fn turn<T: Slot>(list: &mut [T], i: usize, w: usize, p: u32) -> usize
+    requires { (i < w) × (w < length list.old) }
+    ensures { TurnPost p i w (map T.entry list.old) result (map T.entry list.new) }
 {
-    [next[0], e[1] + next[1], next[2]]
-}
-
-// One turn: the row at i goes into the one at w, or is put before it. The answer is the place of the first row that is done.
-fn turn(rows: &mut [[u32; 3]], i: usize, w: usize, p: u32) -> usize
-    requires { (i < w) × (w < length rows.old) }
-    ensures { TurnPost p i w (entries_of rows.old) result (entries_of rows.new) }
-{
-    let e = rows[i];
-    let next = rows[w];
+    let place = list[i];
+    let e = place.entry();
+    let next = list[w].entry();
     if mergeable(e, next, p) {
-        let m = merge(e, next);
-        rows[w] = m;
+        list[w] = T::holding(merge(e, next));
         return w;
     }
-    rows[w - 1] = e;
+    list[w - 1] = place;
     w - 1
 }
 
-// The backward pass over places held - 2 down to 1. What is left of places 1 up to held stands from the answer up to held.
-fn merge_back(rows: &mut [[u32; 3]], held: usize, p: u32) -> usize
-    requires { (1 < held) × (held ≤ length rows.old) }
-    ensures { MergedFrom p held (entries_of rows.old) 1 result (entries_of rows.new) }
+// The backward pass over all places but the last and the first. What is left behind the first stands from the answer on.
+fn merge_back<T: Slot>(list: &mut [T], p: u32) -> usize
+    requires { 1 < length list.old }
+    ensures { MergedFrom p (map T.entry list.old) 1 result (map T.entry list.new) }
 {
-    let mut w = held - 1;
-    let mut i = held - 1;
-    while 1 < i {
-        w = turn(rows, i - 1, w, p);
-        i -= 1;
+    let mut w = list.len() - 1;
+    for i in (1..list.len() - 1).rev() {
+        w = turn(list, i, w, p);
     }
     w
 }
 
-// The rows from w up to held move down to place 1.
-fn close_gap(rows: &mut [[u32; 3]], w: usize, held: usize)
-    requires { (0 < w) × (w ≤ held) × (held ≤ length rows.old) }
-    ensures { rows.new ≡ moved_down w held rows.old }
+// The entries compressed, and the places that became free zeroed. The answer is how many are held then.
+pub fn compress<T: Slot>(list: &mut [T], p: u32) -> usize
+    ensures { CompressPost p (map T.entry list.old) result (map T.entry list.new) }
 {
-    let mut j = 0;
-    while j < held - w {
-        let row = rows[w + j];
-        rows[1 + j] = row;
-        j += 1;
-    }
-}
-
-// The first `held` rows compressed, and the places that became free zeroed. The answer is how many are held then.
-pub fn compress(rows: &mut [[u32; 3]], held: usize, p: u32) -> usize
-    requires { held ≤ length rows.old }
-    ensures { CompressPost p held rows.old result rows.new }
-{
+    let held = list.len();
     if held < 2 {
         return held;
     }
-    let w = merge_back(rows, held, p);
-    close_gap(rows, w, held);
+    let w = merge_back(list, p);
+    list.copy_within(w.., 1);
     let left = 1 + (held - w);
-    room::clear(rows, left, held);
+    let zero = Entry {
+        v: 0,
+        g: 0,
+        delta: 0,
+    };
+    room::clear(list, left, held, T::holding(zero));
     left
 }

@@ -2,6 +2,7 @@
 -- Assumes nothing.
 use mathlib.Core.Path.{◌≡◌, ap, ◌∙◌}
 use mathlib.Core.Bool.{true}
+use Rattle.std.specs.Prelude.{Ok}
 use mathlib.Core.List.{List, []}
 use native.Mathlib.Omega.{arith}
 use lib.ListN.{length, replicate, length-replicate}
@@ -16,7 +17,6 @@ use Rattle.greenwald_khanna_theory.proofs.Explaining.{fresh_sound}
 use Rattle.greenwald_khanna_steps.specs.declared.Stream.{Stream}
 use Rattle.greenwald_khanna_steps.specs.Sound.{sound, state_of}
 use Rattle.greenwald_khanna_steps.proofs.Sounds.{facts_sound}
-use Rattle.greenwald_khanna_steps.specs.declared.Opened.TheVariants as opening
 use Rattle.greenwald_khanna_steps.specs.Limits.{slots_ok}
 use Rattle.greenwald_khanna_steps.specs.Opening.{opened, opened_list}
 
@@ -24,14 +24,14 @@ use Rattle.greenwald_khanna_steps.specs.Opening.{opened, opened_list}
 abbrev pub fresh_stream : Fraction → Stream
 fresh_stream ε = record { epsilon = ε; n = 0; held = 0 }
 
-pub open_passes : (ε : Fraction) (list : List Entry) (st : Stream) → opened ε list ≡ opening.Open st
+pub open_passes : (ε : Fraction) (list : List Entry) (st : Stream) → opened ε list ≡ Ok st
     → (slots_ok (length list) ≡ true) × (is_epsilon ε ≡ true) × (st ≡ fresh_stream ε)
 unfolding opened
 open_passes ε list st e =
     let t = both_passed (slots_ok (length list)) (is_epsilon ε) e (λ z. differ (cc)) (λ z. differ (cc)) in
     (t.0, t.1, cc t.2)
 
-module _ (ε : Fraction) (before : List Entry) (st : Stream) (e : opened ε before ≡ opening.Open st) where
+module _ (ε : Fraction) (before : List Entry) (st : Stream) (e : opened ε before ≡ Ok st) where
   pub opened_zero : opened_list ε before ≡ replicate (length before) zero_entry
   opened_zero = rw e
 

@@ -1,39 +1,37 @@
--- The two halves of an accepted insert, over lent rows, and the two put together.
+-- The two halves of an accepted insert, over a lent list, and the two put together.
 -- Assumes nothing.
 use mathlib.Core.Path.{◌≡◌, refl, sym, ap, ◌∙◌}
-use Prim.Native.Nat.{ℕ, suc, ◌+◌, ◌%◌, ◌≤◌, ◌<◌}
+use Prim.Native.Nat.{ℕ, suc, ◌+◌, ◌-◌, ◌%◌, ◌≤◌, ◌<◌}
+use mathlib.Core.Logic.{◌⊎◌, inl, inr}
 use mathlib.Core.Bool.{true}
-use mathlib.Core.List.{List, [], ◌∷◌, ◌++◌}
+use mathlib.Core.List.{List, ◌++◌, map, map-append, append_assoc}
 use native.Mathlib.Omega.{arith}
 use borrow.Author.Tests.{eq-eqb, ne_eqb}
-use lib.ListN.{length, take, drop, length-map}
+use lib.ListN.{length, take, drop, replicate, length-map}
 use lib.Seq.{length-take-le}
 use Rattle.fraction.specs.declared.Fraction.{Fraction}
 use Rattle.fraction.specs.Allowed.{is_epsilon, within}
 use Rattle.fraction.specs.Products.{p_of, period}
 use Rattle.fraction.proofs.Tests.{within_true}
 use Rattle.entries.specs.declared.Entry.{Entry}
-use Rattle.entries.specs.Entry.{entry, zero_entry, entry_of, entries_of, values}
+use Rattle.entries.specs.Entry.{entry, zero_entry, values}
 use Rattle.entries.specs.Lists.{put_at, layout}
 use Rattle.entries.specs.Place.{place}
-use Rattle.entries.proofs.Layouts.{put_rows, layout_front, layout_room, layout_full, layout_again}
-use Rattle.entries.proofs.Maps.{map_take}
+use Rattle.entries.proofs.Layouts.{layout_front, layout_room, layout_full, layout_again}
+use Rattle.entries.proofs.Maps.{map_take, map_drop, map_put_at}
 use Rattle.greenwald_khanna_theory.specs.State.{State, grown, tidied, insert}
 use Rattle.greenwald_khanna_theory.specs.Summary.{new_delta, put_in, compress}
 use Rattle.greenwald_khanna_rows.specs.Compress.{CompressPost}
 use Rattle.greenwald_khanna_steps.specs.declared.Stream.{Stream}
 use Rattle.greenwald_khanna_steps.specs.Sound.{state_of}
 use Rattle.greenwald_khanna_steps.specs.Steps.{Holds}
-use Rattle.greenwald_khanna_steps.proofs.Lengths.{compress_length, grown_length}
+use Rattle.greenwald_khanna_steps.proofs.Lengths.{grown_length}
 
--- the delta of a new entry
-pub delta_front : (p pos held : ℕ) → pos ≡ 0 → 0 ≡ new_delta p pos held
+-- the delta of a new entry: at either end, and between
+pub delta_end : (p pos held : ℕ) → (pos ≡ 0) ⊎ ((pos ≡ 0 → ⊥) × (pos ≡ held)) → 0 ≡ new_delta p pos held
 unfolding new_delta
-delta_front p pos held h = rw (eq-eqb pos 0 h)
-
-pub delta_end : (p pos held : ℕ) → (pos ≡ 0 → ⊥) → pos ≡ held → 0 ≡ new_delta p pos held
-unfolding new_delta
-delta_end p pos held g h = rw (ne_eqb pos 0 g, eq-eqb pos held h)
+delta_end p pos held (inl h) = rw (eq-eqb pos 0 h)
+delta_end p pos held (inr h) = rw (ne_eqb pos 0 h.0, eq-eqb pos held h.1)
 
 pub delta_between : (p pos held : ℕ) → (pos ≡ 0 → ⊥) → (pos ≡ held → ⊥) → p ≡ new_delta p pos held
 unfolding new_delta
@@ -49,63 +47,63 @@ unfolding grown
 grown_count ε s x = refl
 
 -- the first half: an entry more, at its place
-module _ (st : Stream) (rows : List (List ℕ)) (v pos delta : ℕ) (after : List (List ℕ)) (h : st.held < length rows)
-    (hp : pos ≡ place v (values (entries_of (take st.held rows)))) (hd : delta ≡ new_delta (p_of st.epsilon st.n) pos st.held)
-    (ha : after ≡ put_at pos (v ∷ 1 ∷ delta ∷ []) (take st.held rows) ++ drop (suc st.held) rows) where
-  abbrev old : List Entry
-  old = take st.held (entries_of rows)
-
-  old-is : entries_of (take st.held rows) ≡ old
-  old-is = map_take entry_of st.held rows
-
-  old-length : length old ≡ st.held
-  old-length = length-take-le st.held (entries_of rows) (omega (arith, length-map rows entry_of))
+module _ (st : Stream) (list : List Entry) (v pos delta : ℕ) (after : List Entry) (h : st.held < length list)
+    (hp : pos ≡ place v (values (take st.held list))) (hd : delta ≡ new_delta (p_of st.epsilon st.n) pos st.held)
+    (ha : after ≡ put_at pos (entry v 1 delta) (take st.held list) ++ drop (suc st.held) list) where
+  old-length : length (take st.held list) ≡ st.held
+  old-length = length-take-le st.held list (omega arith)
 
   abbrev more : State
-  more = grown st.epsilon (state_of st (entries_of rows)) v
+  more = grown st.epsilon (state_of st list) v
 
-  more-is : more.entries ≡ put_at pos (entry v 1 delta) old
+  more-is : more.entries ≡ put_at pos (entry v 1 delta) (take st.held list)
   unfolding grown put_in
-  more-is =
-      let q : pos ≡ place v (values old) = hp ∙ ap (λ (l : List Entry). place v (values l)) old-is in
-      rw (← q, old-length, ← hd)
+  more-is = rw (← hp, old-length, ← hd)
 
-  pub grown_holds : Holds st.epsilon more (suc st.held) (entries_of rows) (record { epsilon = st.epsilon; n = st.n + 1; held = st.held + 1 }) (entries_of after)
+  pub grown_holds : Holds st.epsilon more (suc st.held) list (record { epsilon = st.epsilon; n = st.n + 1; held = st.held + 1 }) after
   grown_holds =
-      let size : length more.entries ≡ suc st.held = omega (arith, grown_length st.epsilon (state_of st (entries_of rows)) v, old-length) in
+      let size : length more.entries ≡ suc st.held = omega (arith, grown_length st.epsilon (state_of st list) v, old-length) in
       record {
-        stream = stream_eq (grown_count st.epsilon (state_of st (entries_of rows)) v) (omega arith);
-        entries =
-            put_rows pos st.held v 1 delta rows after ha
-            ∙ rw (← more-is) (layout_full zero_entry more.entries (suc st.held) (entries_of rows) size);
+        stream = stream_eq (grown_count st.epsilon (state_of st list) v) (omega arith);
+        entries = ha ∙ rw (← more-is) (layout_full zero_entry more.entries (suc st.held) list size);
       }
 
--- the second half: the entries compressed
-module _ (st : Stream) (rows : List (List ℕ)) (p r : ℕ) (after : List (List ℕ)) (he : is_epsilon st.epsilon ≡ true)
-    (hp : p ≡ within (is_epsilon st.epsilon) (p_of st.epsilon st.n)) (hc : CompressPost p st.held rows r after) where
-  abbrev less : State
-  less = tidied st.epsilon (state_of st (entries_of rows))
+-- the same over the places of a lent list, where x holds the new entry
+pub grown_places : {A : Type 0} (f : A → Entry) (st : Stream) (list : List A) (v pos delta : ℕ) (x : A) (after : List A) → st.held < length list
+    → pos ≡ place v (values (map f (take st.held list))) → delta ≡ new_delta (p_of st.epsilon st.n) pos st.held → f x ≡ entry v 1 delta
+    → after ≡ put_at pos x (take st.held list) ++ drop (suc st.held) list
+    → Holds st.epsilon (grown st.epsilon (state_of st (map f list)) v) (suc st.held) (map f list) (record { epsilon = st.epsilon; n = st.n + 1; held = st.held + 1 }) (map f after)
+grown_places f st list v pos delta x after h hp hd hx ha =
+    grown_holds st (map f list) v pos delta (map f after) (omega (arith, length-map list f))
+    (hp ∙ ap (λ (es : List Entry). place v (values es)) (map_take f st.held list)) hd
+    (ap (map f) ha
+    ∙ map-append f (put_at pos x (take st.held list)) (drop (suc st.held) list)
+    ∙ rw (map_put_at f pos x (take st.held list), hx, map_take f st.held list, map_drop f (suc st.held) list))
 
-  less-is : compress p (entries_of (take st.held rows)) ≡ less.entries
+-- the second half: the entries compressed, in the part of a lent list that holds them
+module _ {A : Type 0} (f : A → Entry) (st : Stream) (list part : List A) (p r : ℕ) (he : is_epsilon st.epsilon ≡ true) (hh : st.held ≤ length list)
+    (hp : p ≡ within (is_epsilon st.epsilon) (p_of st.epsilon st.n)) (hc : CompressPost p (map f (take st.held list)) r (map f part)) where
+  abbrev less : State
+  less = tidied st.epsilon (state_of st (map f list))
+
+  less-is : compress p (map f (take st.held list)) ≡ less.entries
   unfolding tidied
-  less-is =
-      let q : p ≡ p_of st.epsilon st.n = hp ∙ within_true (p_of st.epsilon st.n) he in
-      rw (q, map_take entry_of st.held rows)
+  less-is = rw (hp ∙ within_true (p_of st.epsilon st.n) he, map_take f st.held list)
 
   tidied-count : st.n ≡ less.n
   unfolding tidied
   tidied-count = refl
 
-  pub tidied_holds : Holds st.epsilon less st.held (entries_of rows) (record { epsilon = st.epsilon; n = st.n; held = r }) (entries_of after)
-  tidied_holds = record {
-    stream = stream_eq tidied-count (hc.count ∙ ap length less-is);
-    entries = hc.list ∙ ap (λ (es : List Entry). layout zero_entry es st.held (entries_of rows)) less-is;
-  }
+  -- the part put back leaves the places behind it as they were
+  put_back : map f (part ++ drop st.held list) ≡ layout zero_entry less.entries st.held (map f list)
+  put_back =
+      let long : length (map f (take st.held list)) ≡ st.held = length-map (take st.held list) f ∙ length-take-le st.held list hh in
+      map-append f part (drop st.held list)
+      ∙ rw (hc.list, long, less-is, map_drop f st.held list)
+      (append_assoc less.entries (replicate (st.held - length less.entries) zero_entry) (drop st.held (map f list)))
 
--- what compression leaves is not more than what was there
-pub compressed_few : (p held : ℕ) (rows : List (List ℕ)) (r : ℕ) (after : List (List ℕ)) → CompressPost p held rows r after → held ≤ length rows → r ≤ held
-compressed_few p held rows r after c h =
-    omega (arith, c.count, compress_length p (entries_of (take held rows)), length-map (take held rows) entry_of, length-take-le held rows h)
+  pub tidied_holds : Holds st.epsilon less st.held (map f list) (record { epsilon = st.epsilon; n = st.n; held = r }) (map f (part ++ drop st.held list))
+  tidied_holds = record { stream = stream_eq tidied-count (hc.count ∙ ap length less-is); entries = put_back }
 
 -- the two halves of an insert
 module _ (st : Stream) (before : List Entry) (v : ℕ) (h : st.held < length before) where
@@ -150,13 +148,13 @@ module _ (st : Stream) (before : List Entry) (v : ℕ) (h : st.held < length bef
       })
 
 -- between the halves the stream may be compressed
-pub grown_fits : (st : Stream) (rows : List (List ℕ)) (v : ℕ) (mid : Stream) (left : List (List ℕ)) → is_epsilon st.epsilon ≡ true → st.held < length rows
-    → Holds st.epsilon (grown st.epsilon (state_of st (entries_of rows)) v) (suc st.held) (entries_of rows) mid (entries_of left)
+pub grown_fits : (st : Stream) (before : List Entry) (v : ℕ) (mid : Stream) (left : List Entry) → is_epsilon st.epsilon ≡ true
+    → Holds st.epsilon (grown st.epsilon (state_of st before) v) (suc st.held) before mid left
     → (is_epsilon mid.epsilon ≡ true) × (mid.held ≤ length left)
-grown_fits st rows v mid left a h g =
-    let more : State = grown st.epsilon (state_of st (entries_of rows)) v in
+grown_fits st before v mid left a g =
+    let more : State = grown st.epsilon (state_of st before) v in
     let e : mid.epsilon ≡ st.epsilon = ap (λ (s : Stream). s.epsilon) g.stream in
     let held : mid.held ≡ length more.entries = ap (λ (s : Stream). s.held) g.stream in (
       ap is_epsilon e ∙ a,
-      omega (arith, length-map left entry_of, ap length g.entries, layout_room zero_entry more.entries (suc st.held) (entries_of rows)),
+      omega (arith, ap length g.entries, layout_room zero_entry more.entries (suc st.held) before),
     )

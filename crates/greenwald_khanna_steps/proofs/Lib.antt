@@ -1,3 +1,4 @@
+pub mod Checks
 pub mod Fresh
 pub mod Halves
 pub mod Lengths

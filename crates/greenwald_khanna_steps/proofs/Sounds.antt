@@ -2,8 +2,9 @@
 -- Assumes nothing.
 use mathlib.Core.Path.{◌≡◌, refl, sym, ◌∙◌}
 use Prim.Native.Nat.{ℕ, ◌+◌, ◌≤◌, ◌<◌}
+use mathlib.Core.Logic.{◌⊎◌, inl, inr}
 use mathlib.Core.Bool.{Bool, true, false, beq, ◌&&◌, and-eq-true_iff}
-use mathlib.Core.List.{List, [], ◌∷◌}
+use mathlib.Core.List.{List, [], ◌∷◌, map}
 use native.Mathlib.Omega.{arith}
 use borrow.Author.Tests.{leb-true, le-leb, lt-leb, eq-eqb, ne_eqb}
 use lib.Dec.{leb, eqb}
@@ -13,7 +14,7 @@ use Rattle.fraction.specs.Allowed.{is_epsilon, within}
 use Rattle.fraction.specs.Products.{p_of}
 use Rattle.fraction.proofs.Tests.{within_true}
 use Rattle.entries.specs.declared.Entry.{Entry}
-use Rattle.entries.specs.Entry.{entry_of, entries_of, values, sum_g}
+use Rattle.entries.specs.Entry.{values, sum_g}
 use Rattle.entries.specs.Ranks.{Rising}
 use Rattle.entries.proofs.Guards.{both}
 use Rattle.entries.proofs.Maps.{map_take}
@@ -22,7 +23,7 @@ use Rattle.greenwald_khanna_theory.specs.Sound.{sound_entries}
 use Rattle.greenwald_khanna_theory.proofs.Explaining.{held_within}
 use Rattle.greenwald_khanna_theory.proofs.Rules.{entries_true}
 use Rattle.greenwald_khanna_steps.specs.declared.Stream.{Stream}
-use Rattle.greenwald_khanna_steps.specs.Limits.{slots, observations}
+use Rattle.greenwald_khanna_steps.specs.Limits.{slots, observations, slots_ok}
 use Rattle.greenwald_khanna_steps.specs.Sound.{sound, state_of}
 use Rattle.greenwald_khanna_steps.specs.Steps.{Accepts}
 
@@ -52,29 +53,24 @@ module _ (st : Stream) (list : List Entry) where
       (absorbed (beq (eqb st.held 0) (eqb st.n 0)) entries_sound
       (λ h. rw (length-take-le st.held list c) at (none_together (p_of st.epsilon st.n) st.n (take st.held list) h)))
 
--- the tests that fail first
-module _ (st : Stream) (list : List Entry) where
-  pub bad_epsilon : is_epsilon st.epsilon ≡ false → sound st list ≡ false
-  unfolding sound
-  bad_epsilon a = rw a
+-- a test that fails, as the code makes it: t is the test of ε, and `many` the number of rows
+pub broken : (st : Stream) (list : List Entry) (t : Bool) (many : ℕ) → t ≡ is_epsilon st.epsilon → many ≡ length list
+    → (t ≡ false) ⊎ (((t ≡ true) × (observations < st.n)) ⊎ ((t ≡ true) × (st.n ≤ observations) × (many < st.held)))
+    → false ≡ sound st list
+unfolding sound
+broken st list t many p q (inl h) = rw (← p, h)
+broken st list t many p q (inr (inl h)) = rw (← p, h.0, lt-leb st.n observations h.1)
+broken st list t many p q (inr (inr h)) = rw (← p, h.0, le-leb st.n observations h.1, ← q, lt-leb st.held many h.2)
 
-  pub many_observations : is_epsilon st.epsilon ≡ true → observations < st.n → sound st list ≡ false
-  unfolding sound
-  many_observations a b = rw (a, lt-leb st.n observations b)
-
-  pub held_beyond : is_epsilon st.epsilon ≡ true → st.n ≤ observations → length list < st.held → sound st list ≡ false
-  unfolding sound
-  held_beyond a b c = rw (a, le-leb st.n observations b, lt-leb st.held (length list) c)
-
--- the last test, as the code makes it over rows
-pub sound_tested : (st : Stream) (rows : List (List ℕ)) (p : ℕ) (r : Bool) → is_epsilon st.epsilon ≡ true → st.n ≤ observations → st.held ≤ length rows
-    → p ≡ within (is_epsilon st.epsilon) (p_of st.epsilon st.n) → r ≡ sound_entries p st.n (entries_of (take st.held rows))
-    → r ≡ sound st (entries_of rows)
-sound_tested st rows p r a b c hp hr =
+-- the last test, as the code makes it over the places of a lent list
+pub sound_tested : {A : Type 0} (entry : A → Entry) (st : Stream) (list : List A) (p : ℕ) (r : Bool) → is_epsilon st.epsilon ≡ true → st.n ≤ observations
+    → st.held ≤ length list → p ≡ within (is_epsilon st.epsilon) (p_of st.epsilon st.n) → r ≡ sound_entries p st.n (map entry (take st.held list))
+    → r ≡ sound st (map entry list)
+sound_tested entry st list p r a b c hp hr =
     let q : p ≡ p_of st.epsilon st.n = hp ∙ within_true (p_of st.epsilon st.n) a in
     hr
-    ∙ rw (q, map_take entry_of st.held rows)
-    (sym (sound_is st (entries_of rows) a b (omega (arith, length-map rows entry_of))))
+    ∙ rw (q, map_take entry st.held list)
+    (sym (sound_is st (map entry list) a b (omega (arith, length-map list entry))))
 
 -- the rules, but the one that follows
 pub record Facts (st : Stream) (list : List Entry) : Type 0 where
@@ -100,17 +96,26 @@ sound_facts st list h =
 pub facts_sound : (st : Stream) (list : List Entry) → Facts st list → sound st list ≡ true
 facts_sound st list f = sound_is st list f.epsilon f.count f.room ∙ f.entries
 
--- the values of the held rows never fall
-pub rows_rising : (st : Stream) (rows : List (List ℕ)) → Accepts st (entries_of rows) → Rising 0 (values (entries_of (take st.held rows)))
-rows_rising st rows a =
-    let f : Facts st (entries_of rows) = sound_facts st (entries_of rows) a.unharmed in
-    rw (map_take entry_of st.held rows) (entries_true (p_of st.epsilon st.n) st.n (take st.held (entries_of rows)) f.entries).sorted
+-- how many slots may be lent
+pub slots_within : (many : ℕ) → slots_ok many ≡ true → (1 ≤ many) × (many ≤ slots)
+slots_within many e = let b = both (leb 1 many) (leb many slots) e in (leb-true 1 many b.0, leb-true many slots b.1)
 
--- where an insert is accepted, there is room, and not too much
-pub accepts_room : (st : Stream) (rows : List (List ℕ)) → Accepts st (entries_of rows) → (st.held < length rows) × (length rows ≤ slots)
-accepts_room st rows a =
-    let b = both (leb 1 (length (entries_of rows))) (leb (length (entries_of rows)) slots) a.slots in
-    (omega (arith, a.room, length-map rows entry_of), omega (arith, leb-true (length (entries_of rows)) slots b.1, length-map rows entry_of))
+-- what is known of a lent list, by its entries
+module _ {A : Type 0} (entry : A → Entry) (st : Stream) (list : List A) where
+  -- the values of the held entries never fall
+  pub held_rising : Accepts st (map entry list) → Rising 0 (values (map entry (take st.held list)))
+  held_rising a =
+      let f : Facts st (map entry list) = sound_facts st (map entry list) a.unharmed in
+      rw (map_take entry st.held list) (entries_true (p_of st.epsilon st.n) st.n (take st.held (map entry list)) f.entries).sorted
+
+  -- where an insert is accepted, there is room, and not too much
+  pub accepts_room : Accepts st (map entry list) → (st.held < length list) × (length list ≤ slots)
+  accepts_room a =
+      (omega (arith, a.room, length-map list entry), omega (arith, (slots_within (length (map entry list)) a.slots).1, length-map list entry))
+
+  -- no more is held than was lent
+  pub sound_room : sound st (map entry list) ≡ true → st.held ≤ length list
+  sound_room h = omega (arith, (sound_facts st (map entry list) h).room, length-map list entry)
 
 -- the g of the held entries add up to n
 pub sums_to_n : (st : Stream) (list : List Entry) → sound st list ≡ true → (sum_g (take st.held list) ≡ st.n) × (st.held ≤ st.n)
@@ -126,7 +131,3 @@ held_none st list h z =
     let zero : st.held ≡ 0 = omega arith in
     let k : sum_g (take st.held list) ≡ st.n = (sums_to_n st list h).0 in
     sym (rw zero at k)
-
--- no more is held than was lent
-pub sound_room : (st : Stream) (rows : List (List ℕ)) → sound st (entries_of rows) ≡ true → st.held ≤ length rows
-sound_room st rows h = omega (arith, (sound_facts st (entries_of rows) h).room, length-map rows entry_of)

@@ -1,12 +1,13 @@
-// What the Greenwald-Khanna stream is: its state over a lent list of rows [v, g, delta], its limits, its opening,
+// What the Greenwald-Khanna stream is: its state over a lent list of rows [v, g, delta] or of entries, its limits, its opening,
 // when it is sound, and the steps of its calls.
 #![tactic(auto)]
 
-ghost use Rattle.std.specs.Prelude.{◌≡◌};
-ghost use Rattle.entries.specs.Entry.{entries_of};
-ghost use Rattle.greenwald_khanna_steps.specs.Limits.{slots, observations, denominator};
+ghost use Rattle.std.specs.Prelude.{◌≡◌, map};
+ghost use Rattle.greenwald_khanna_steps.specs.Limits.{slots, observations, denominator, slots_ok};
 ghost use Rattle.greenwald_khanna_steps.specs.Opening.{OpenPost};
+ghost use Rattle.greenwald_khanna_steps.specs.Sound.{checked};
 
+use entries::{Entry, Slot};
 use fraction::Fraction;
 use refusal::Refusal;
 
@@ -18,13 +19,6 @@ pub struct Stream {
     pub epsilon: Fraction,
     pub n: u32,
     pub held: u32,
-}
-
-// What opening answers.
-#[derive(Clone, Copy)]
-pub enum Opened {
-    Open(Stream),
-    Refused(Refusal),
 }
 
 impl Stream {
@@ -57,24 +51,46 @@ impl Stream {
     }
 
     // A fresh stream over the lent list, whose slots become zero. Refused: SLOTS, EPSILON.
-    pub fn open(epsilon: Fraction, rows: &mut [[u32; 3]]) -> Opened
-        ensures { OpenPost epsilon (entries_of rows.old) result (entries_of rows.new) }
+    pub fn open<T: Slot>(epsilon: Fraction, list: &mut [T]) -> Result<Stream, Refusal>
+        ensures { OpenPost epsilon (map T.entry list.old) result (map T.entry list.new) }
     {
-        let slots = rows.len();
-        if slots < 1 {
-            return Opened::Refused(Refusal::Slots);
+        let slots = list.len();
+        if !slots_ok(slots) {
+            return Err(Refusal::Slots);
         }
-        if Stream::SLOTS < slots {
-            return Opened::Refused(Refusal::Slots);
+        if !epsilon.is_epsilon() {
+            return Err(Refusal::Epsilon);
         }
-        if epsilon.is_epsilon() {
-            room::clear(rows, 0, slots);
-            return Opened::Open(Stream {
-                epsilon,
-                n: 0,
-                held: 0,
-            });
-        }
-        Opened::Refused(Refusal::Epsilon)
+        let zero = Entry {
+            v: 0,
+            g: 0,
+            delta: 0,
+        };
+        room::clear(list, 0, slots, T::holding(zero));
+        Ok(Stream {
+            epsilon,
+            n: 0,
+            held: 0,
+        })
     }
+
+    // What every later call tests first: the lent list's length, then whether state and list are sound. Refused: SLOTS, DAMAGED.
+    pub fn check<T: Slot>(self, list: &[T]) -> Result<(), Refusal>
+        ensures { result ≡ checked self (map T.entry list.now) }
+    {
+        if !slots_ok(list.len()) {
+            return Err(Refusal::Slots);
+        }
+        if !self.is_sound(list) {
+            return Err(Refusal::Damaged);
+        }
+        Ok(())
+    }
+}
+
+// Whether a lent list of so many slots is taken.
+fn slots_ok(slots: usize) -> bool
+    ensures { result ≡ slots_ok slots }
+{
+    1 <= slots && slots <= Stream::SLOTS
 }

@@ -1,17 +1,30 @@
--- What p returns is the answer by its definition.
+-- What the calls return is the answer by its definition.
 -- Assumes nothing.
-use mathlib.Core.Path.{◌≡◌, refl, ap, ◌∙◌}
+use Rattle.std.specs.Prelude.{Ok, Err}
+use mathlib.Core.Path.{◌≡◌, refl, sym, ap, ◌∙◌}
 use Prim.Native.Nat.{ℕ}
 use mathlib.Core.Bool.{Bool, true, false}
 use mathlib.Core.List.{List}
+use Rattle.refusal.specs.declared.Refusal.{Refusal}
 use Rattle.fraction.specs.Allowed.{is_epsilon, within}
 use Rattle.fraction.specs.Products.{p_of}
 use Rattle.fraction.proofs.Tests.{within_true}
 use Rattle.entries.specs.declared.Entry.{Entry}
 use Rattle.greenwald_khanna_steps.specs.declared.Stream.{Stream}
-use Rattle.greenwald_khanna_steps.specs.Sound.{sound}
+use Rattle.greenwald_khanna_steps.specs.Sound.{sound, checked}
+use Rattle.greenwald_khanna_steps.proofs.Checks.{checked_passes, checked_refuses}
 use Rattle.greenwald_khanna_steps.proofs.Sounds.{sound_facts}
 use Rattle.greenwald_khanna_told.specs.Answers.{told, told_p}
+use Rattle.greenwald_khanna_told.proofs.Exactly.{told_exactly}
+
+-- what the tests refuse, and what they pass
+module _ (st : Stream) (list : List Entry) (x : ℕ) where
+  pub told_refused : (why : Refusal) → Err why ≡ checked st list → Err why ≡ told st list x
+  unfolding told
+  told_refused why e = checked_refuses st list (Ok x) why e
+
+  pub told_passed : Ok tt ≡ checked st list → Ok x ≡ told st list x
+  told_passed e = sym ((told_exactly st list x).value.1 (checked_passes st list e))
 
 -- telling p: of a sound stream, whose ε is allowed
 pub told_p_lem : (st : Stream) (list : List Entry) (x : ℕ) → x ≡ within (is_epsilon st.epsilon) (p_of st.epsilon st.n) → told st list x ≡ told_p st list

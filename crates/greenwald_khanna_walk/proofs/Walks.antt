@@ -1,37 +1,46 @@
--- The walk over rows, turn by turn.
+-- The walk over a lent list, turn by turn; f tells the entry in a place, and xs are the places behind the first.
 -- Assumes nothing.
-use mathlib.Core.Path.{◌≡◌, refl}
-use Prim.Native.Nat.{ℕ, ◌+◌, ◌≤◌, ◌<◌}
-use mathlib.Core.Option.{some}
-use mathlib.Core.List.{List, [], ◌∷◌}
-use native.Mathlib.Numerals.{add-one}
+use mathlib.Core.Path.{◌≡◌, sym, ap, ◌∙◌}
+use Prim.Native.Nat.{ℕ, suc, ◌+◌, ◌-◌, ◌≤◌, ◌<◌}
+use mathlib.Core.Option.{Option, some}
+use mathlib.Core.List.{List, [], ◌∷◌, map}
 use native.Mathlib.Omega.{arith}
 use borrow.Author.Tests.{lt-ltb, le-ltb}
-use lib.ListN.{length, drop, drop_of_length-le}
-use lib.Seq.{drop-cons}
-use Rattle.entries.specs.Entry.{entries_of}
-use Rattle.entries.proofs.Parts.{entry_at}
+use lib.ListN.{length, get_or, take, drop}
+use lib.Seq.{take-length}
+use Rattle.std.proofs.lemmas.List.{at_drop_more, at_drop_all}
+use Rattle.entries.specs.declared.Entry.{Entry}
 use Rattle.greenwald_khanna_theory.specs.Walk.{walk, look_up}
 
-module _ (limit : ℕ) where
-  -- it starts behind the first row
-  pub begin : (rows : List (List ℕ)) → 0 < length rows
-      → look_up limit (entries_of rows) ≡ some (walk limit (entry_at rows 0).g (entry_at rows 0).v (entries_of (drop 1 rows)))
+module _ {A : Type 0} (f : A → Entry) (limit : ℕ) where
+  -- it starts behind the first place
+  pub begin : (xs : List A) (x : A) (e : Entry) → 0 < length xs → x ≡ get_or xs 0 x → e ≡ f x
+      → look_up limit (map f xs) ≡ some (walk limit e.g e.v (map f (take (length xs - 1) (drop 1 xs))))
   unfolding look_up
-  begin [] h = absurd (omega arith)
-  begin (x ∷ xs) h = refl
+  begin [] x e h a b = absurd (omega arith)
+  begin (y ∷ ys) x e h a b =
+      let q : suc (length ys) - 1 ≡ length ys = omega arith in
+      rw (q, take-length ys, b, a)
 
-  -- at the row i: it ends, or goes on, or there is no such row
-  module _ (rows : List (List ℕ)) (i sum v : ℕ) (e : look_up limit (entries_of rows) ≡ some (walk limit sum v (entries_of (drop i rows)))) where
-    pub stop : i < length rows → limit < sum + (entry_at rows i).g + (entry_at rows i).delta → look_up limit (entries_of rows) ≡ some v
-    unfolding walk
-    stop h b = rw (drop-cons rows i [] h, lt-ltb limit (sum + (entry_at rows i).g + (entry_at rows i).delta) b) at e
+  -- before a place: the walk from there gives r, as the whole does
+  module _ (xs : List A) (i : ℕ) (r : Option ℕ) (sum v : ℕ) (h : r ≡ some (walk limit sum v (map f (drop i xs)))) where
+    -- at the place: it ends, or goes on
+    module _ (x : A) (e : Entry) (b : i < length xs) (at : x ≡ get_or xs i x) (is : e ≡ f x) where
+      turn : r ≡ some (walk limit sum v (e ∷ map f (drop (i + 1) xs)))
+      turn =
+          h
+          ∙ at_drop_more (λ l. some (walk limit sum v (map f l))) xs i x b
+          ∙ ap (λ (z : Entry). some (walk limit sum v (z ∷ map f (drop (i + 1) xs)))) (sym (is ∙ ap f at))
 
-    pub go : i < length rows → sum + (entry_at rows i).g + (entry_at rows i).delta ≤ limit
-        → look_up limit (entries_of rows) ≡ some (walk limit (sum + (entry_at rows i).g) (entry_at rows i).v (entries_of (drop (i + 1) rows)))
-    unfolding walk
-    go h b = rw (add-one i) (rw (drop-cons rows i [] h, le-ltb limit (sum + (entry_at rows i).g + (entry_at rows i).delta) b) at e)
+      pub stop : limit < sum + e.g + e.delta → r ≡ some v
+      unfolding walk
+      stop past = rw (lt-ltb limit (sum + e.g + e.delta) past) at turn
 
-    pub finish : length rows ≤ i → look_up limit (entries_of rows) ≡ some v
+      pub go : sum + e.g + e.delta ≤ limit → r ≡ some (walk limit (sum + e.g) e.v (map f (drop (i + 1) xs)))
+      unfolding walk
+      go within = rw (le-ltb limit (sum + e.g + e.delta) within) at turn
+
+    -- no place is left
+    pub finish : length xs ≤ i → r ≡ some v
     unfolding walk
-    finish h = rw (drop_of_length-le rows h) at e
+    finish b = h ∙ at_drop_all (λ l. some (walk limit sum v (map f l))) xs i b

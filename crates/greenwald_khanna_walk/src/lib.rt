@@ -1,31 +1,28 @@
-// The walk of the Greenwald-Khanna stream over rows [v, g, delta], equal to its definition over entries.
+// The walk of the Greenwald-Khanna stream over a lent list, equal to its definition over entries.
 #![tactic(auto)]
 
-ghost use Rattle.std.specs.Prelude.{◌≡◌, ◌≤◌, ◌<◌, length};
+ghost use Rattle.std.specs.Prelude.{◌≡◌, ◌≤◌, ◌<◌, length, map};
 ghost use Rattle.std.proofs.Math.Option.{some};
-ghost use Rattle.entries.specs.Entry.{entries_of};
 ghost use Rattle.greenwald_khanna_theory.specs.Walk.{look_up};
 
-use fraction::wide;
+use entries::Slot;
 
-// The value before the first row where the sum of g so far, with its delta, passes the limit; else the last value.
-pub fn look_up(rows: &[[u32; 3]], limit: u64) -> u32
-    requires { (0 < length rows.now) × (length rows.now ≤ 65536) }
-    ensures { look_up limit (entries_of rows.now) ≡ some result }
+// The value before the first entry where the sum of g so far, with its delta, passes the limit; else the last value.
+pub fn look_up<T: Slot>(list: &[T], limit: u64) -> u32
+    requires { (0 < length list.now) × (length list.now ≤ 65536) }
+    ensures { look_up limit (map T.entry list.now) ≡ some result }
 {
-    let first = rows[0];
-    let mut v = first[0];
-    let mut sum = wide(first[1]);
-    let mut i = 1;
-    while i < rows.len() {
-        let row = rows[i];
-        let reached = sum + wide(row[1]);
-        if limit < reached + wide(row[2]) {
+    let first = list[0].entry();
+    let mut v = first.v;
+    let mut sum = u64::from(first.g);
+    for place in &list[1..] {
+        let e = place.entry();
+        let reached = sum + u64::from(e.g);
+        if limit < reached + u64::from(e.delta) {
             return v;
         }
-        v = row[0];
+        v = e.v;
         sum = reached;
-        i += 1;
     }
     v
 }

@@ -20,8 +20,8 @@ use Rattle.histogram_rows.specs.Bounds.{bin_of}
 use Rattle.histogram_rows.specs.Bins.{total_below, counted}
 use Rattle.histogram_rows.proofs.Binning.{bin_fits}
 use Rattle.histogram_rows.proofs.Choosing.{ending_finite, chosen_below}
-use Rattle.histogram_steps.specs.declared.Sum.TheVariants.{Some}
-use Rattle.histogram_steps.specs.declared.Standing.TheVariants.{Fine}
+use Rattle.std.proofs.Common.{Some}
+use Rattle.std.proofs.Common.{Ok}
 use Rattle.histogram_steps.specs.Bounds.{allowed}
 use Rattle.histogram_steps.specs.State.{observations, largest, plus}
 use Rattle.histogram_steps.proofs.Sounds.{allowed_means, sound_holds}
@@ -76,7 +76,7 @@ tells_more bs X s x t w n =
     let cs : List ℕ = s.counts in
     let k : ℕ = bin_of bs x in
     let b : k < length cs = bin_fits bs cs x t.fits in
-    let f : insert_standing s.state bs cs ≡ Fine =
+    let f : insert_standing s.state bs cs ≡ Ok tt =
     rw (
       sound_fine s.state bs cs t.fits (sound_holds s.state bs cs t.sound),
       lt-ltb s.state.count observations (omega (arith, t.count)),

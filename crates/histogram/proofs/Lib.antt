@@ -1,4 +1,3 @@
 pub mod Cases
-pub mod Answering
 pub mod Filling
 pub mod Examples

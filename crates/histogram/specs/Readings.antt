@@ -1,9 +1,8 @@
 -- Document 01's reading 7, and rows beside it which notice slips that it does not.
 -- Assumes nothing: these are statements.
-use Rattle.std.specs.Prelude.{◌≡◌, [], ◌∷◌}
+use Rattle.std.specs.Prelude.{◌≡◌, [], ◌∷◌, Some}
 use Rattle.histogram_rows.specs.declared.Bound.TheVariants.{Finite, PosInf}
 use Rattle.histogram_rows.specs.Bins.{total_below, total_above, total_between}
-use Rattle.histogram_steps.specs.declared.Sum.TheVariants.{Some}
 use Rattle.histogram.specs.Runs.{Held, opened, filled}
 
 -- bounds 10, 100 with 99, 100

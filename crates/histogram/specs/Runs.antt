@@ -1,13 +1,11 @@
 -- A histogram that is opened and filled by inserts, and what it tells of the observations.
 -- Assumes nothing: these are definitions.
-use Rattle.std.specs.Prelude.{◌≡◌, ℕ, suc, ◌+◌, ◌≤◌, cond, List, [], ◌∷◌, eqb, length, get_or, replicate}
+use Rattle.std.specs.Prelude.{◌≡◌, ℕ, suc, ◌+◌, ◌≤◌, cond, List, [], ◌∷◌, eqb, length, get_or, replicate, Option, Some, None}
 use Rattle.entries.specs.Ranks.{upto, Member}
 use Rattle.entries.specs.Total.{total}
 use Rattle.histogram_rows.specs.declared.Bound.TheVariants.{Finite}
 use Rattle.histogram_rows.specs.Bounds.{bin_of}
 use Rattle.histogram_rows.specs.Bins.{total_below, counted}
-use Rattle.histogram_steps.specs.declared.Sum.{Sum}
-use Rattle.histogram_steps.specs.declared.Sum.TheVariants.{Nothing, Some}
 use Rattle.histogram_steps.specs.declared.Histogram.{Histogram}
 use Rattle.histogram_steps.specs.State.{largest, fresh, taken}
 use Rattle.histogram_steps.specs.Sound.{Sound}
@@ -38,9 +36,9 @@ abbrev pub Words : List ℕ → Type 0
 Words [] = Unit {0}
 Words (x ∷ xs) = (x ≤ largest) × Words xs
 
--- the sum of observations: nothing where there are none
-abbrev pub sum_of : List ℕ → Sum
-sum_of [] = Nothing
+-- the sum of observations: none where there are none
+abbrev pub sum_of : List ℕ → Option ℕ
+sum_of [] = None
 sum_of (x ∷ xs) = Some (total (x ∷ xs))
 
 -- how many of X fall into bin k

@@ -2,48 +2,58 @@
 // Bounds and counts are lent; nothing in a state is trusted, so every call tests what it is given.
 #![tactic(auto)]
 
-ghost use Rattle.std.specs.Prelude.{◌≡◌};
+ghost use Rattle.std.specs.Prelude.{◌≡◌, [], MatchResult};
+ghost use Rattle.refusal.specs.Number.{number_of};
 ghost use Rattle.histogram.specs.Answers.{bins_answer, bins_number};
 ghost use Rattle.histogram.specs.Posts.{InsertPost};
 ghost use Rattle.histogram.specs.Promises.{Promises};
 
-use fraction::wide;
 use histogram_rows::counts;
-use histogram_steps::Standing;
 use refusal::Refusal;
 
 // The upper bound of a bin, or a bound that is asked for.
 pub use histogram_rows::Bound;
 
-// What a histogram is beside its bounds and counts, its sum, and what opening answers.
-pub use histogram_steps::{Histogram, Opened, Sum};
+// What a histogram is beside its bounds and counts.
+pub use histogram_steps::Histogram;
 
 // What a histogram tells.
-pub use histogram_told::{Counted, Summed, count, sum, total_above, total_below, total_between};
-
-// What an insert answers.
-#[derive(Clone, Copy)]
-pub enum Inserted {
-    Taken(Histogram),
-    Refused(Refusal),
-}
+pub use histogram_told::{count, sum, total_above, total_below, total_between};
 
 // One observation more, or why not.
-pub fn insert(histogram: Histogram, bounds: &[u32], counts: &mut [u32], v: u32) -> Inserted
+pub fn insert(
+    histogram: Histogram,
+    bounds: &[u32],
+    counts: &mut [u32],
+    v: u32,
+) -> Result<Histogram, Refusal>
     ensures { InsertPost histogram bounds.now counts.old v result counts.new }
 {
-    let standing = histogram.standing(bounds, counts);
-    if let Standing::Refused(why) = standing {
-        return Inserted::Refused(why);
-    }
+    histogram.standing(bounds, counts)?;
     if Histogram::OBSERVATIONS <= histogram.count {
-        return Inserted::Refused(Refusal::Count);
+        return Err(Refusal::Count);
     }
     counts::raise(bounds, counts, v);
-    Inserted::Taken(histogram.taken(wide(v)))
+    Ok(histogram.taken(u64::from(v)))
 }
 
-// The counts of those bins, as a part of the lent counts; an empty part for a refusal.
+// The counts of those bins, as a part of the lent counts, or why not.
+pub fn part<'a>(
+    histogram: Histogram,
+    bounds: &[u32],
+    counts: &'a [u32],
+    lower: Bound,
+    upper: Bound,
+) -> Result<&'a [u32], Refusal>
+    ensures { MatchResult result
+        (λ part. (bins_number histogram bounds.now counts.now ≡ 0) × (part.now ≡ bins_answer histogram bounds.now counts.now lower upper))
+        (λ why. (bins_number histogram bounds.now counts.now ≡ number_of why) × (bins_answer histogram bounds.now counts.now lower upper ≡ [])) }
+{
+    let bins = histogram.over(bounds, counts)?;
+    Ok(bins.between(lower, upper))
+}
+
+// The same part; an empty one for a refusal. This call and the next stay beside `part`, since document 01 names them: a view, and its sister.
 pub fn bins<'a>(
     histogram: Histogram,
     bounds: &[u32],
@@ -53,21 +63,16 @@ pub fn bins<'a>(
 ) -> &'a [u32]
     ensures { result.now ≡ bins_answer histogram bounds.now counts.now lower upper }
 {
-    let standing = histogram.standing(bounds, counts);
-    if let Standing::Refused(_) = standing {
-        return &counts[..0];
-    }
-    counts::between(bounds, counts, lower, upper)
+    part(histogram, bounds, counts, lower, upper).unwrap_or(&[])
 }
 
 // Why `bins` is refused: the number, or 0.
 pub fn bins_refusal(histogram: Histogram, bounds: &[u32], counts: &[u32]) -> u32
     ensures { result ≡ bins_number histogram bounds.now counts.now }
 {
-    let standing = histogram.standing(bounds, counts);
-    match standing {
-        Standing::Fine => 0,
-        Standing::Refused(why) => why.number(),
+    match histogram.standing(bounds, counts) {
+        Ok(()) => 0,
+        Err(why) => why.number(),
     }
 }
 

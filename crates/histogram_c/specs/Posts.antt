@@ -1,10 +1,9 @@
 -- What holds after each call on a histogram that writes or hands back a part.
 -- Assumes nothing: these are definitions.
-use Rattle.std.specs.Prelude.{◌≡◌, ℕ, ◌+◌, ◌≤◌, cond, List, eqb, length, take, drop}
+use Rattle.std.specs.Prelude.{◌≡◌, ℕ, ◌+◌, ◌≤◌, cond, List, eqb, length, take, drop, Result}
+use Rattle.refusal.specs.declared.Refusal.{Refusal}
 use Rattle.histogram_rows.specs.declared.Bound.{Bound}
 use Rattle.histogram_steps.specs.declared.Histogram.{Histogram}
-use Rattle.histogram_steps.specs.declared.Opened.{Opened}
-use Rattle.histogram.specs.declared.Inserted.{Inserted}
 use Rattle.histogram_steps.specs.Opening.{OpenPost}
 use Rattle.histogram.specs.Posts.{InsertPost}
 use Rattle.histogram.specs.Answers.{bins_answer, bins_number}
@@ -16,13 +15,13 @@ use Rattle.histogram_words.specs.Histograms.{histogram_of, flat_opened, flat_ins
 
 -- `stelo_histogram_open`
 pub record HistogramOpenPost (bs cs : List ℕ) (answer : HistogramAnswer) (cs' : List ℕ) : Type 0 where
-  pub core : Opened
+  pub core : Result Histogram Refusal
   pub post : OpenPost bs cs core cs'
   pub flat : answer ≡ flat_opened core
 
 -- `stelo_histogram_insert`
 pub record HistogramInsertPost (given : HistogramWords) (bs cs : List ℕ) (v : ℕ) (answer : HistogramAnswer) (cs' : List ℕ) : Type 0 where
-  pub core : Inserted
+  pub core : Result Histogram Refusal
   pub post : InsertPost (histogram_of given) bs cs v core cs'
   pub flat : answer ≡ flat_inserted given core
 

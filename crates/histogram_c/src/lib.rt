@@ -9,9 +9,8 @@ ghost use Rattle.histogram_c.specs.Posts.{HistogramOpenPost, HistogramInsertPost
 ghost use Rattle.histogram_c.specs.Promises.{Promises};
 
 use histogram::{Bound, Histogram};
-use histogram_words::{
-    BoundWords, HistogramAnswer, HistogramWords, Part, SumAnswer, counted, inserted, opened, summed,
-};
+use histogram_rows::bounds;
+use histogram_words::{BoundWords, HistogramAnswer, HistogramWords, Part, SumAnswer};
 use words::Number;
 
 // A fresh histogram. Refused: BOUNDS-EMPTY, BOUNDS-MANY, BOUNDS-ORDER, SLOTS.
@@ -19,7 +18,7 @@ use words::Number;
 pub extern "C" fn stelo_histogram_open(bounds: &[u32], counts: &mut [u32]) -> HistogramAnswer
     ensures { HistogramOpenPost bounds.now counts.old result counts.new }
 {
-    opened(Histogram::open(bounds, counts))
+    HistogramAnswer::new(Histogram::open(bounds, counts), HistogramWords::default())
 }
 
 // One observation more. Refused: SLOTS, DAMAGED, COUNT.
@@ -32,10 +31,8 @@ pub extern "C" fn stelo_histogram_insert(
 ) -> HistogramAnswer
     ensures { HistogramInsertPost histogram bounds.now counts.old v result counts.new }
 {
-    inserted(
-        histogram::insert(histogram.histogram(), bounds, counts, v),
-        histogram,
-    )
+    let answer = histogram::insert(histogram.into(), bounds, counts, v);
+    HistogramAnswer::new(answer, histogram)
 }
 
 // How many observations were accepted. Refused: SLOTS, DAMAGED.
@@ -47,7 +44,7 @@ pub extern "C" fn stelo_histogram_count(
 ) -> Number
     ensures { result ≡ flat_counted (count_answer (histogram_of histogram) bounds.now counts.now) }
 {
-    counted(histogram::count(histogram.histogram(), bounds, counts))
+    histogram::count(histogram.into(), bounds, counts).into()
 }
 
 // Their sum. Refused: SLOTS, DAMAGED.
@@ -59,7 +56,7 @@ pub extern "C" fn stelo_histogram_sum(
 ) -> SumAnswer
     ensures { result ≡ flat_summed (sum_answer (histogram_of histogram) bounds.now counts.now) }
 {
-    summed(histogram::sum(histogram.histogram(), bounds, counts))
+    histogram::sum(histogram.into(), bounds, counts).into()
 }
 
 // How many are in bins with bound ≤ upper. Refused: SLOTS, DAMAGED.
@@ -72,7 +69,7 @@ pub extern "C" fn stelo_histogram_total_below(
 ) -> Number
     ensures { result ≡ flat_counted (below_answer (histogram_of histogram) bounds.now counts.now (bound_of upper)) }
 {
-    counted(histogram::total_below(histogram.histogram(), bounds, counts, upper.bound()))
+    histogram::total_below(histogram.into(), bounds, counts, upper.into()).into()
 }
 
 // How many are in bins with bound > lower. Refused: SLOTS, DAMAGED.
@@ -85,7 +82,7 @@ pub extern "C" fn stelo_histogram_total_above(
 ) -> Number
     ensures { result ≡ flat_counted (above_answer (histogram_of histogram) bounds.now counts.now (bound_of lower)) }
 {
-    counted(histogram::total_above(histogram.histogram(), bounds, counts, lower.bound()))
+    histogram::total_above(histogram.into(), bounds, counts, lower.into()).into()
 }
 
 // How many are in bins with lower < bound ≤ upper. Refused: SLOTS, DAMAGED.
@@ -99,13 +96,7 @@ pub extern "C" fn stelo_histogram_total_between(
 ) -> Number
     ensures { result ≡ flat_counted (between_answer (histogram_of histogram) bounds.now counts.now (bound_of lower) (bound_of upper)) }
 {
-    counted(histogram::total_between(
-        histogram.histogram(),
-        bounds,
-        counts,
-        lower.bound(),
-        upper.bound(),
-    ))
+    histogram::total_between(histogram.into(), bounds, counts, lower.into(), upper.into()).into()
 }
 
 // Where the counts of those bins stand among the lent counts. Refused: SLOTS, DAMAGED.
@@ -119,33 +110,24 @@ pub extern "C" fn stelo_histogram_bins(
 ) -> Part
     ensures { BinsPost (histogram_of histogram) bounds.now counts.now (bound_of lower) (bound_of upper) result }
 {
-    part(
-        histogram.histogram(),
-        bounds,
-        counts,
-        lower.bound(),
-        upper.bound(),
-    )
+    part(histogram.into(), bounds, counts, lower.into(), upper.into())
 }
 
-// The bins above `lower` are the last ones, so their number says where the part begins.
+// The part begins behind the bins with bound ≤ lower.
 fn part(histogram: Histogram, bounds: &[u32], counts: &[u32], lower: Bound, upper: Bound) -> Part
     ensures { BinsPost histogram bounds.now counts.now lower upper result }
 {
-    let refusal = histogram::bins_refusal(histogram, bounds, counts);
-    if refusal != 0 {
-        return Part {
-            refusal,
+    match histogram::part(histogram, bounds, counts, lower, upper) {
+        Ok(bins) => Part {
+            refusal: 0,
+            start: bounds::ending(bounds, lower),
+            length: bins.len(),
+        },
+        Err(why) => Part {
+            refusal: why.number(),
             start: 0,
             length: 0,
-        };
-    }
-    let above = histogram::bins(histogram, bounds, counts, lower, Bound::PosInf);
-    let between = histogram::bins(histogram, bounds, counts, lower, upper);
-    Part {
-        refusal: 0,
-        start: counts.len() - above.len(),
-        length: between.len(),
+        },
     }
 }
 

@@ -1,7 +1,7 @@
 -- Over bounds that never fall, the bins that a total asks for are a part of the counts: those up to a bound stand in front, those above it behind.
 -- Assumes nothing.
 use mathlib.Core.Path.{◌≡◌, refl, sym, ap, ◌∙◌}
-use Prim.Native.Nat.{ℕ, suc, ◌+◌, ◌-◌, ◌≤◌, ◌<◌}
+use Prim.Native.Nat.{ℕ, suc, ◌+◌, ◌-◌, ◌≤◌}
 use mathlib.Core.Bool.{Bool, true, false, not, cond, ◌&&◌}
 use mathlib.Core.List.{List, [], ◌∷◌}
 use native.Mathlib.Omega.{arith}
@@ -13,9 +13,6 @@ use Rattle.histogram_rows.specs.declared.Bound.{Bound}
 use Rattle.histogram_rows.specs.declared.Bound.TheVariants.{Finite, PosInf}
 use Rattle.histogram_rows.specs.Bounds.{at_most, ending}
 use Rattle.histogram_rows.specs.Bins.{chosen, bins_between, Binned}
-
-pub never : true ≡ false → ⊥
-never e = let z : ◌≡◌ {A = ℕ} 0 1 = cc in omega arith
 
 -- how many bins have a bound that is at most u
 pub ending_finite : (bs : List ℕ) (x : ℕ) → ending bs (Finite x) ≡ upto bs x
@@ -37,14 +34,14 @@ ending_le (b ∷ bs) u = omega (arith, one_or_none (at_most (Finite b) u), endin
 -- nothing behind a bound that is above u is at most u
 none_ending : (low : ℕ) (bs : List ℕ) (u : Bound) → Rising low bs → at_most (Finite low) u ≡ false → ending bs u ≡ 0
 none_ending low bs (Finite x) r e = ending_finite bs x ∙ none_upto low bs x r (leb-false low x e)
-none_ending low bs PosInf r e = absurd (never e)
+none_ending low bs PosInf r e = absurd (cc)
 
 -- what is at most l is at most u, where u is above l
 passes_on : (b : ℕ) (l u : Bound) → at_most u l ≡ false → at_most (Finite b) l ≡ true → at_most (Finite b) u ≡ true
 passes_on b (Finite l) (Finite u) g e = le-leb b u (omega (arith, leb-false u l g, leb-true b l e))
 passes_on b (Finite l) PosInf g e = refl
-passes_on b PosInf (Finite u) g e = absurd (never g)
-passes_on b PosInf PosInf g e = absurd (never g)
+passes_on b PosInf (Finite u) g e = absurd (cc)
+passes_on b PosInf PosInf g e = absurd (cc)
 
 module _ (u : Bound) where
   pub chosen_below : (low : ℕ) (bs cs : List ℕ) → Rising low bs → length cs ≡ suc (length bs)
@@ -116,7 +113,7 @@ module _ (l u : Bound) (g : at_most u l ≡ false) where
           let o : 1 + to - (1 + from) ≡ to - from = omega arith in
           let f : 1 + from ≡ suc from = omega arith in
           rw (o, f) h
-      go true false p q h = absurd (never (sym (passes_on b l u g p) ∙ q))
+      go true false p q h = absurd (cc (passes_on b l u g p))
       go false true p q h =
           let z : ending bs l ≡ 0 = none_ending b bs l r.1 p in
           let o : 1 + to - 0 ≡ suc to = omega arith in
@@ -130,13 +127,13 @@ module _ (l u : Bound) (g : at_most u l ≡ false) where
 -- a bound that is at most another has no more bins up to it
 steps : (s t : Bool) → (s ≡ true → t ≡ true) → cond s 1 0 ≤ cond t 1 0
 steps true true f = omega arith
-steps true false f = absurd (never (sym (f refl)))
+steps true false f = absurd (cc (f refl))
 steps false t f = omega arith
 
 pub passes_up : (b u l : Bound) → at_most u l ≡ true → at_most b u ≡ true → at_most b l ≡ true
 passes_up (Finite b) (Finite u) (Finite l) g e = le-leb b l (omega (arith, leb-true u l g, leb-true b u e))
-passes_up (Finite b) PosInf (Finite l) g e = absurd (never (sym g))
-passes_up PosInf (Finite u) (Finite l) g e = absurd (never (sym e))
+passes_up (Finite b) PosInf (Finite l) g e = absurd (cc)
+passes_up PosInf (Finite u) (Finite l) g e = absurd (cc)
 passes_up PosInf PosInf (Finite l) g e = g
 passes_up (Finite b) u PosInf g e = refl
 passes_up PosInf u PosInf g e = refl
@@ -156,14 +153,10 @@ between_part bs cs l u r e = go (at_most u l) refl
     go true q = let z : ending bs u - ending bs l ≡ 0 = omega (arith, ending_mono bs u l q) in rw z
     go false q = chosen-between l u q 0 bs cs r e
 
--- as the code hands them back, from one place up to another, and where the second comes first
+-- as the code hands them back, from one place up to another
 module _ {bs cs : List ℕ} (l u : Bound) (b : Binned bs cs) where
   pub between_handed : (start end : ℕ) → start ≡ ending bs l → end ≡ ending bs u → take (end - start) (drop start cs) ≡ bins_between bs cs l u
   between_handed start end p q = rw (p, q) (sym (between_part bs cs l u b.never_fall b.long))
-
-  pub between_none : ending bs u < ending bs l → [] ≡ bins_between bs cs l u
-  between_none h =
-      let z : ending bs u - ending bs l ≡ 0 = omega arith in sym (rw z at (between_part bs cs l u b.never_fall b.long))
 
   -- they are few enough to add up
   pub between_few : {part : List ℕ} → part ≡ bins_between bs cs l u → length part ≤ 65536

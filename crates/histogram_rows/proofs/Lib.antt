@@ -1,3 +1,5 @@
+pub mod Searching
+pub mod Summing
 pub mod Choosing
 pub mod Splitting
 pub mod Binning

@@ -13,7 +13,7 @@ use Rattle.histogram_rows.specs.declared.Bound.TheVariants.{Finite, PosInf}
 use Rattle.histogram_rows.specs.Bounds.{at_most}
 use Rattle.histogram_rows.specs.Bins.{chosen, total_below, total_above, bins_between, total_between}
 use Rattle.histogram_rows.specs.Laws.{BetweenIsDifference}
-use Rattle.histogram_rows.proofs.Choosing.{never, passes_up}
+use Rattle.histogram_rows.proofs.Choosing.{passes_up}
 
 -- a test and its opposite choose all
 all_chosen : (test : Bound → Bool) (bs cs : List ℕ) → length cs ≡ suc (length bs)
@@ -73,7 +73,7 @@ more_chosen one two f [] (c ∷ cs) = go (one PosInf) (two PosInf) (f PosInf)
   where
     go : (s t : Bool) → (s ≡ true → t ≡ true) → total (cond s (c ∷ []) []) + total (cond (not s && t) (c ∷ []) []) ≡ total (cond t (c ∷ []) [])
     go true true g = omega arith
-    go true false g = absurd (never (sym (g refl)))
+    go true false g = absurd (cc (g refl))
     go false true g = omega arith
     go false false g = omega arith
 more_chosen one two f (b ∷ bs) (c ∷ cs) = go (one (Finite b)) (two (Finite b)) (f (Finite b)) (more_chosen one two f bs cs)
@@ -90,7 +90,7 @@ more_chosen one two f (b ∷ bs) (c ∷ cs) = go (one (Finite b)) (two (Finite b
     go : (s t : Bool) → (s ≡ true → t ≡ true) → total first + total then ≡ total last
         → total (cond s (c ∷ first) first) + total (cond (not s && t) (c ∷ then) then) ≡ total (cond t (c ∷ last) last)
     go true true g h = omega arith
-    go true false g h = absurd (never (sym (g refl)))
+    go true false g h = absurd (cc (g refl))
     go false true g h = omega arith
     go false false g h = omega arith
 

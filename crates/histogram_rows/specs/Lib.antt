@@ -1,3 +1,4 @@
 pub mod Bounds
 pub mod Bins
+pub mod Props
 pub mod Laws

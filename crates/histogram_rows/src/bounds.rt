@@ -10,17 +10,7 @@ use crate::Bound;
 pub fn rising(bounds: &[u32]) -> bool
     ensures { result ≡ rising 0 bounds.now }
 {
-    let mut before = 0;
-    let mut i = 0;
-    while i < bounds.len() {
-        let bound = bounds[i];
-        if bound < before {
-            return false;
-        }
-        before = bound;
-        i += 1;
-    }
-    true
+    bounds.is_sorted()
 }
 
 // How many bins have a bound that is at most u: they are the first ones. The bin of +Inf comes last.
@@ -29,7 +19,7 @@ pub fn ending(bounds: &[u32], u: Bound) -> usize
     ensures { (result ≡ ending bounds.now u) × (result ≤ suc (length bounds.now)) }
 {
     match u {
-        Bound::Finite(x) => search::up_to(bounds, x),
+        Bound::Finite(x) => bounds.partition_point(|b| *b <= x),
         Bound::PosInf => bounds.len() + 1,
     }
 }

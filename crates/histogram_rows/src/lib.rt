@@ -4,8 +4,8 @@
 pub mod bounds;
 pub mod counts;
 
-// The upper bound of a bin, or a bound that is asked for. +Inf equals itself.
-#[derive(Clone, Copy)]
+// The upper bound of a bin, or a bound that is asked for. +Inf equals itself, and stands above every number.
+#[derive(Clone, Copy, Debug, PartialEq, Eq, PartialOrd, Ord)]
 pub enum Bound {
     Finite(u32),
     PosInf,

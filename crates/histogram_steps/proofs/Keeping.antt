@@ -1,9 +1,8 @@
 -- An opened histogram is sound, and an insert that is taken leaves a sound one.
 -- Assumes nothing.
 use mathlib.Core.Path.{◌≡◌, refl}
-use Prim.Native.Nat.{ℕ, suc, ◌+◌, ◌^◌, ◌≤◌, ◌<◌}
+use Prim.Native.Nat.{ℕ, suc, ◌≤◌, ◌<◌}
 use mathlib.Core.List.{List}
-use native.Mathlib.Numerals.{add-one}
 use native.Mathlib.Omega.{arith}
 use lib.ListN.{length, replicate}
 use Rattle.entries.specs.Ranks.{Rising}
@@ -11,8 +10,7 @@ use Rattle.entries.proofs.Totals.{total_zeros, total_set}
 use Rattle.histogram_rows.specs.Bounds.{bin_of}
 use Rattle.histogram_rows.specs.Bins.{counted}
 use Rattle.histogram_rows.proofs.Binning.{bin_fits}
-use Rattle.histogram_steps.specs.declared.Sum.{Sum}
-use Rattle.histogram_steps.specs.declared.Sum.TheVariants.{Nothing, Some}
+use Rattle.std.proofs.Common.{Option, Some, None}
 use Rattle.histogram_steps.specs.declared.Histogram.{Histogram}
 use Rattle.histogram_steps.specs.Bounds.{bounds}
 use Rattle.histogram_steps.specs.State.{observations, largest, fresh, plus, taken}
@@ -28,20 +26,8 @@ fresh_sound bs n a b r = record {
   sum_fits = refl;
 }
 
--- the record with one observation more, by the two cases of its sum
-module _ (h : Histogram) (v : ℕ) where
-  pub taken_first : h.sum ≡ Nothing → ◌≡◌ {A = Histogram} (record { count = h.count + 1; sum = Some v }) (taken h v)
-  taken_first e = rw (e, add-one h.count)
-
-  module _ (x : ℕ) (e : h.sum ≡ Some x) where
-    pub taken_later : ◌≡◌ {A = Histogram} (record { count = h.count + 1; sum = Some (x + v) }) (taken h v)
-    taken_later = rw (e, add-one h.count)
-
-    pub sum_room : SumFits h.sum h.count → h.count < observations → v ≤ largest → x + v < 2 ^ 64
-    sum_room f n l = let s : SumFits (Some x) h.count = rw e at f in omega arith
-
-plus_fits : (s : Sum) (n v : ℕ) → v ≤ largest → SumFits s n → SumFits (plus s v) (suc n)
-plus_fits Nothing n v h f = (omega arith, omega arith)
+plus_fits : (s : Option ℕ) (n v : ℕ) → v ≤ largest → SumFits s n → SumFits (plus s v) (suc n)
+plus_fits None n v h f = (omega arith, omega arith)
 plus_fits (Some x) n v h f = (omega arith, omega arith)
 
 pub taken_sound : (h : Histogram) (bs cs : List ℕ) (v : ℕ) → length cs ≡ suc (length bs) → Sound h bs cs → h.count < observations → v ≤ largest

@@ -1,41 +1,29 @@
--- The soundness test says what the rules say; and what the code's own steps say of it.
+-- The soundness test says what the rules say.
 -- Assumes nothing.
 use mathlib.Core.Path.{◌≡◌}
-use Prim.Native.Nat.{ℕ, ◌*◌, ◌≤◌, ◌<◌}
-use mathlib.Core.Bool.{Bool, true, false, ◌&&◌, and-eq-true_iff}
+use Prim.Native.Nat.{ℕ, ◌*◌, ◌≤◌}
+use mathlib.Core.Bool.{Bool, true, ◌&&◌, and-eq-true_iff}
 use mathlib.Core.List.{List}
-use borrow.Author.Tests.{le-leb, lt-leb, leb-true, eqb-true, eq-eqb}
+use borrow.Author.Tests.{le-leb, leb-true, eqb-true, eq-eqb}
 use lib.Dec.{leb, eqb}
 use lib.ListN.{length}
 use Rattle.entries.specs.Order.{rising}
 use Rattle.entries.specs.Ranks.{Rising}
 use Rattle.entries.specs.Total.{total}
 use Rattle.entries.proofs.Order.{rising_means, rising_holds}
-use Rattle.histogram_steps.specs.declared.Sum.{Sum}
-use Rattle.histogram_steps.specs.declared.Sum.TheVariants.{Nothing, Some}
+use Rattle.std.proofs.Common.{Option, Some, None}
 use Rattle.histogram_steps.specs.declared.Histogram.{Histogram}
 use Rattle.histogram_steps.specs.Bounds.{bounds, allowed}
 use Rattle.histogram_steps.specs.State.{observations, largest}
 use Rattle.histogram_steps.specs.Sound.{SumFits, Sound, sum_sound, sound}
 
--- the sum, by its two cases
-pub sum_nothing : (s : Sum) (n : ℕ) → s ≡ Nothing → eqb n 0 ≡ sum_sound s n
-sum_nothing s n e = rw e
-
-module _ (s : Sum) (n x : ℕ) (e : s ≡ Some x) where
-  pub sum_of_none : n < 1 → false ≡ sum_sound s n
-  sum_of_none h = rw (e, lt-leb 1 n h)
-
-  pub sum_of_some : (m : ℕ) → 1 ≤ n → m ≡ n → leb x (m * 4294967295) ≡ sum_sound s n
-  sum_of_some m h q = rw (e, le-leb 1 n h, q)
-
-sum_means : (s : Sum) (n : ℕ) → sum_sound s n ≡ true → SumFits s n
-sum_means Nothing n t = eqb-true n 0 t
+sum_means : (s : Option ℕ) (n : ℕ) → sum_sound s n ≡ true → SumFits s n
+sum_means None n t = eqb-true n 0 t
 sum_means (Some x) n t =
     let a = (and-eq-true_iff (leb 1 n) (leb x (n * largest))).0 t in (leb-true 1 n a.0, leb-true x (n * largest) a.1)
 
-sum_holds : (s : Sum) (n : ℕ) → SumFits s n → sum_sound s n ≡ true
-sum_holds Nothing n f = eq-eqb n 0 f
+sum_holds : (s : Option ℕ) (n : ℕ) → SumFits s n → sum_sound s n ≡ true
+sum_holds None n f = eq-eqb n 0 f
 sum_holds (Some x) n f = rw (le-leb 1 n f.0) (le-leb x (n * largest) f.1)
 
 -- the bounds

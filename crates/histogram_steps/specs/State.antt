@@ -1,8 +1,6 @@
 -- The histogram's record: fresh, and with one observation more.
 -- Assumes nothing: these are definitions.
-use Rattle.std.specs.Prelude.{ℕ, suc, ◌+◌}
-use Rattle.histogram_steps.specs.declared.Sum.{Sum}
-use Rattle.histogram_steps.specs.declared.Sum.TheVariants.{Nothing, Some}
+use Rattle.std.specs.Prelude.{ℕ, suc, ◌+◌, Option, Some, None}
 use Rattle.histogram_steps.specs.declared.Histogram.{Histogram}
 
 -- the most observations, and the largest one
@@ -14,11 +12,11 @@ largest = 4294967295
 
 -- nothing taken yet
 abbrev pub fresh : Histogram
-fresh = record { count = 0; sum = Nothing }
+fresh = record { count = 0; sum = None }
 
 -- a sum and one value more
-abbrev pub plus : Sum → ℕ → Sum
-plus Nothing v = Some v
+abbrev pub plus : Option ℕ → ℕ → Option ℕ
+plus None v = Some v
 plus (Some x) v = Some (x + v)
 
 -- the record with the observation v more

@@ -12,32 +12,11 @@ use refusal::Refusal;
 
 mod steps;
 
-// The sum of the observations: nothing exactly while there are none.
-#[derive(Clone, Copy)]
-pub enum Sum {
-    Nothing,
-    Some(u64),
-}
-
-// What a histogram is beside its bounds and counts.
-#[derive(Clone, Copy)]
+// What a histogram is beside its bounds and counts: how many observations there are, and their sum, none exactly while there are none.
+#[derive(Clone, Copy, Debug, PartialEq, Eq)]
 pub struct Histogram {
     pub count: u32,
-    pub sum: Sum,
-}
-
-// What opening answers.
-#[derive(Clone, Copy)]
-pub enum Opened {
-    Open(Histogram),
-    Refused(Refusal),
-}
-
-// Whether a call can be answered.
-#[derive(Clone, Copy)]
-pub enum Standing {
-    Fine,
-    Refused(Refusal),
+    pub sum: Option<u64>,
 }
 
 impl Histogram {
@@ -64,26 +43,25 @@ impl Histogram {
     }
 
     // A fresh histogram over the lent bounds, with every count at zero; or why not.
-    pub fn open(bounds: &[u32], counts: &mut [u32]) -> Opened
+    pub fn open(bounds: &[u32], counts: &mut [u32]) -> Result<Histogram, Refusal>
         ensures { OpenPost bounds.now counts.old result counts.new }
     {
-        let places = counts.len();
-        if bounds.len() < 1 {
-            return Opened::Refused(Refusal::BoundsEmpty);
+        if bounds.is_empty() {
+            return Err(Refusal::BoundsEmpty);
         }
         if Histogram::BOUNDS < bounds.len() {
-            return Opened::Refused(Refusal::BoundsMany);
+            return Err(Refusal::BoundsMany);
         }
-        if bounds::rising(bounds) {
-            if places != bounds.len() + 1 {
-                return Opened::Refused(Refusal::Slots);
-            }
-            room::clear_numbers(counts, 0, places);
-            return Opened::Open(Histogram {
-                count: 0,
-                sum: Sum::Nothing,
-            });
+        if !bounds::rising(bounds) {
+            return Err(Refusal::BoundsOrder);
         }
-        Opened::Refused(Refusal::BoundsOrder)
+        if counts.len() != bounds.len() + 1 {
+            return Err(Refusal::Slots);
+        }
+        counts.fill(0);
+        Ok(Histogram {
+            count: 0,
+            sum: None,
+        })
     }
 }

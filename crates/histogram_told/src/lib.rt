@@ -4,69 +4,50 @@
 ghost use Rattle.std.specs.Prelude.{◌≡◌};
 ghost use Rattle.histogram_told.specs.Answers.{count_answer, sum_answer, below_answer, above_answer, between_answer};
 
-use histogram_rows::{Bound, counts};
-use histogram_steps::{Histogram, Standing, Sum};
+use histogram_rows::Bound;
+use histogram_steps::Histogram;
 use refusal::Refusal;
 
-// What `count` and the totals answer.
-#[derive(Clone, Copy)]
-pub enum Counted {
-    Count(u32),
-    Refused(Refusal),
-}
-
-// What `sum` answers.
-#[derive(Clone, Copy)]
-pub enum Summed {
-    Of(Sum),
-    Refused(Refusal),
-}
-
 // How many observations were taken.
-pub fn count(histogram: Histogram, bounds: &[u32], counts: &[u32]) -> Counted
+pub fn count(histogram: Histogram, bounds: &[u32], counts: &[u32]) -> Result<u32, Refusal>
     ensures { result ≡ count_answer histogram bounds.now counts.now }
 {
-    let standing = histogram.standing(bounds, counts);
-    match standing {
-        Standing::Fine => Counted::Count(histogram.count),
-        Standing::Refused(why) => Counted::Refused(why),
-    }
+    histogram.standing(bounds, counts)?;
+    Ok(histogram.count)
 }
 
-// Their sum.
-pub fn sum(histogram: Histogram, bounds: &[u32], counts: &[u32]) -> Summed
+// Their sum; none where there are none.
+pub fn sum(histogram: Histogram, bounds: &[u32], counts: &[u32]) -> Result<Option<u64>, Refusal>
     ensures { result ≡ sum_answer histogram bounds.now counts.now }
 {
-    let standing = histogram.standing(bounds, counts);
-    let sum = histogram.sum;
-    match standing {
-        Standing::Fine => Summed::Of(sum),
-        Standing::Refused(why) => Summed::Refused(why),
-    }
+    histogram.standing(bounds, counts)?;
+    Ok(histogram.sum)
 }
 
 // How many are in bins with bound ≤ upper.
-pub fn total_below(histogram: Histogram, bounds: &[u32], counts: &[u32], upper: Bound) -> Counted
+pub fn total_below(
+    histogram: Histogram,
+    bounds: &[u32],
+    counts: &[u32],
+    upper: Bound,
+) -> Result<u32, Refusal>
     ensures { result ≡ below_answer histogram bounds.now counts.now upper }
 {
-    let standing = histogram.standing(bounds, counts);
-    if let Standing::Refused(why) = standing {
-        return Counted::Refused(why);
-    }
-    let sum = counts::total_below(bounds, counts, upper) as u32;
-    Counted::Count(sum)
+    let bins = histogram.over(bounds, counts)?;
+    Ok(bins.total_below(upper) as u32)
 }
 
 // How many are in bins with bound > lower.
-pub fn total_above(histogram: Histogram, bounds: &[u32], counts: &[u32], lower: Bound) -> Counted
+pub fn total_above(
+    histogram: Histogram,
+    bounds: &[u32],
+    counts: &[u32],
+    lower: Bound,
+) -> Result<u32, Refusal>
     ensures { result ≡ above_answer histogram bounds.now counts.now lower }
 {
-    let standing = histogram.standing(bounds, counts);
-    if let Standing::Refused(why) = standing {
-        return Counted::Refused(why);
-    }
-    let sum = counts::total_above(bounds, counts, lower) as u32;
-    Counted::Count(sum)
+    let bins = histogram.over(bounds, counts)?;
+    Ok(bins.total_above(lower) as u32)
 }
 
 // How many are in bins with lower < bound ≤ upper.
@@ -76,13 +57,9 @@ pub fn total_between(
     counts: &[u32],
     lower: Bound,
     upper: Bound,
-) -> Counted
+) -> Result<u32, Refusal>
     ensures { result ≡ between_answer histogram bounds.now counts.now lower upper }
 {
-    let standing = histogram.standing(bounds, counts);
-    if let Standing::Refused(why) = standing {
-        return Counted::Refused(why);
-    }
-    let sum = counts::total_between(bounds, counts, lower, upper) as u32;
-    Counted::Count(sum)
+    let bins = histogram.over(bounds, counts)?;
+    Ok(bins.total_between(lower, upper) as u32)
 }

@@ -1,3 +1,2 @@
 pub mod Backs
-pub mod Fitting
 pub mod Misfits

@@ -1,17 +1,19 @@
 // The histogram's state and answers. Words that fit none are read as a state that is never sound, whatever is lent: the core refuses it, after
 // SLOTS, as DAMAGED.
+// C reads these structs, so a refusal is a number in them, and what there may not be stands behind a flag.
 #![tactic(auto)]
 
 ghost use Rattle.std.specs.Prelude.{◌≡◌};
 ghost use Rattle.histogram_words.specs.Promises.{Promises};
-ghost use Rattle.histogram_words.specs.Histograms.{fits, misfit, sum_beside, histogram_of, sum_flag, sum_word, words_of, bound_of, flat_opened, flat_inserted, flat_counted, flat_summed};
+ghost use Rattle.histogram_words.specs.Histograms.{histogram_of, words_of, bound_of, flat_inserted, flat_summed};
 
-use histogram::{Bound, Counted, Histogram, Inserted, Opened, Sum, Summed};
-use words::{Number, flag_fits, refused};
+use histogram::{Bound, Histogram};
+use refusal::Refusal;
+use words::{answered, flag_fits};
 
 // A histogram's state: the count, 1 if there is a sum else 0, the sum.
 #[repr(C)]
-#[derive(Clone, Copy)]
+#[derive(Clone, Copy, Default)]
 pub struct HistogramWords {
     pub count: u64,
     pub has_sum: u64,
@@ -52,155 +54,71 @@ pub struct Part {
     pub length: usize,
 }
 
-// The state of words that fit none: its count is past the limit.
-fn misfit() -> Histogram
-    ensures { result ≡ misfit }
-{
-    Histogram {
-        count: 4294967295,
-        sum: Sum::Nothing,
-    }
-}
+// The state of the words. Those of no state, where the count has more than 32 bits or the flag does not fit the sum, give a count past the limit.
+impl From<HistogramWords> for Histogram {
+    ghost from_gives = { λ w h. h ≡ histogram_of w };
 
-// The sum behind a flag.
-fn sum_beside(flag: u64, sum: u64) -> Sum
-    ensures { result ≡ sum_beside flag sum }
-{
-    if flag == 1 {
-        return Sum::Some(sum);
-    }
-    Sum::Nothing
-}
-
-impl HistogramWords {
-    // Whether the words fit a histogram: a count of 32 bits, and a flag that fits the sum.
-    fn fits(self) -> bool
-        ensures { result ≡ fits self }
-    {
-        if 4294967295 < self.count {
-            return false;
-        }
-        flag_fits(self.has_sum, self.sum == 0)
-    }
-
-    // The state of the words.
-    pub fn histogram(self) -> Histogram
-        ensures { result ≡ histogram_of self }
-    {
-        if self.fits() {
-            return Histogram {
-                count: self.count as u32,
-                sum: sum_beside(self.has_sum, self.sum),
-            };
-        }
-        misfit()
-    }
-}
-
-impl BoundWords {
-    // The bound of the words.
-    pub fn bound(self) -> Bound
-        ensures { result ≡ bound_of self }
-    {
-        if self.infinite == 0 {
-            return Bound::Finite(self.value);
-        }
-        Bound::PosInf
-    }
-}
-
-// A sum in words: 0 and 0 where there is none.
-fn sum_flag(sum: Sum) -> u32
-    ensures { result ≡ sum_flag sum }
-{
-    match sum {
-        Sum::Nothing => 0,
-        Sum::Some(_) => 1,
-    }
-}
-
-fn sum_word(sum: Sum) -> u64
-    ensures { result ≡ sum_word sum }
-{
-    match sum {
-        Sum::Nothing => 0,
-        Sum::Some(x) => x,
-    }
-}
-
-// The words of a state.
-fn words(histogram: Histogram) -> HistogramWords
-    ensures { result ≡ words_of histogram }
-{
-    let sum = histogram.sum;
-    HistogramWords {
-        count: histogram.count as u64,
-        has_sum: sum_flag(sum) as u64,
-        sum: sum_word(sum),
-    }
-}
-
-// What opening answers.
-pub fn opened(answer: Opened) -> HistogramAnswer
-    ensures { result ≡ flat_opened answer }
-{
-    match answer {
-        Opened::Open(histogram) => HistogramAnswer {
-            refusal: 0,
-            histogram: words(histogram),
-        },
-        Opened::Refused(why) => HistogramAnswer {
-            refusal: why.number(),
-            histogram: HistogramWords {
-                count: 0,
-                has_sum: 0,
-                sum: 0,
+    fn from(w: HistogramWords) -> Histogram {
+        match u32::try_from(w.count) {
+            Ok(count) if flag_fits(w.has_sum, w.sum == 0) => Histogram {
+                count,
+                sum: (w.has_sum == 1).then_some(w.sum),
             },
-        },
+            _ => Histogram {
+                count: u32::MAX,
+                sum: None,
+            },
+        }
     }
 }
 
-// What an insert answers: the state as it was given where it is refused.
-pub fn inserted(answer: Inserted, given: HistogramWords) -> HistogramAnswer
-    ensures { result ≡ flat_inserted given answer }
-{
-    match answer {
-        Inserted::Taken(histogram) => HistogramAnswer {
-            refusal: 0,
-            histogram: words(histogram),
-        },
-        Inserted::Refused(why) => HistogramAnswer {
-            refusal: why.number(),
-            histogram: given,
-        },
+// The words of a state: a flag of 0, and 0, where there is no sum.
+impl From<Histogram> for HistogramWords {
+    ghost from_gives = { λ h w. w ≡ words_of h };
+
+    fn from(h: Histogram) -> HistogramWords {
+        HistogramWords {
+            count: u64::from(h.count),
+            has_sum: u64::from(h.sum.is_some()),
+            sum: h.sum.unwrap_or(0),
+        }
     }
 }
 
-// What `count` and the totals answer.
-pub fn counted(answer: Counted) -> Number
-    ensures { result ≡ flat_counted answer }
-{
-    match answer {
-        Counted::Count(value) => Number { refusal: 0, value },
-        Counted::Refused(why) => refused(why),
+// The bound of the words.
+impl From<BoundWords> for Bound {
+    ghost from_gives = { λ w b. b ≡ bound_of w };
+
+    fn from(w: BoundWords) -> Bound {
+        if w.infinite == 0 {
+            Bound::Finite(w.value)
+        } else {
+            Bound::PosInf
+        }
+    }
+}
+
+impl HistogramAnswer {
+    // What opening or an insert answers: the state `given` where it is refused.
+    pub fn new(answer: Result<Histogram, Refusal>, given: HistogramWords) -> HistogramAnswer
+        ensures { result ≡ flat_inserted given answer }
+    {
+        let (refusal, histogram) = answered(answer.map(HistogramWords::from), given);
+        HistogramAnswer { refusal, histogram }
     }
 }
 
 // What `sum` answers.
-pub fn summed(answer: Summed) -> SumAnswer
-    ensures { result ≡ flat_summed answer }
-{
-    match answer {
-        Summed::Of(sum) => SumAnswer {
-            refusal: 0,
-            has_sum: sum_flag(sum),
-            sum: sum_word(sum),
-        },
-        Summed::Refused(why) => SumAnswer {
-            refusal: why.number(),
-            has_sum: 0,
-            sum: 0,
-        },
+impl From<Result<Option<u64>, Refusal>> for SumAnswer {
+    ghost from_gives = { λ answer s. s ≡ flat_summed answer };
+
+    fn from(answer: Result<Option<u64>, Refusal>) -> SumAnswer {
+        let (refusal, sum) = answered(answer, None);
+        SumAnswer {
+            refusal,
+            has_sum: u32::from(sum.is_some()),
+            sum: sum.unwrap_or(0),
+        }
     }
 }
 

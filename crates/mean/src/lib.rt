@@ -31,13 +31,11 @@ impl Mean {
     }
 }
 
-// Whether x is a number: no infinity and no NaN. Only numbers lie between the two infinities.
+// Whether x is a number: no infinity and no NaN.
 pub fn is_finite(x: f64) -> bool
     ensures { result ≡ finite x }
 {
-    let inf = 1.0f64 / 0.0;
-    let least = -inf;
-    if x < inf { least < x } else { false }
+    x.is_finite()
 }
 
 // What is proved about the definitions alone.

@@ -1,20 +1,19 @@
 -- Demand 3: every call of a run keeps the stream sound and explained by the accepted observations, so every quantile is within the ranks.
 -- Assumes nothing.
+use Rattle.std.specs.Prelude.{Result, Ok, Err}
 use mathlib.Core.Path.{◌≡◌, refl, sym, ap, ◌∙◌, subst}
 use Prim.Native.Nat.{ℕ}
 use mathlib.Core.Bool.{true}
 use mathlib.Core.List.{List, [], ◌∷◌, ◌++◌, append-nil, append_assoc}
 use native.Mathlib.Omega.{arith}
 use lib.ListN.{length}
+use Rattle.refusal.specs.declared.Refusal.{Refusal}
 use Rattle.entries.specs.declared.Entry.{Entry}
 use Rattle.fraction.specs.declared.Fraction.{Fraction}
 use Rattle.greenwald_khanna_theory.specs.Explains.{Explains}
 use Rattle.greenwald_khanna_steps.specs.declared.Stream.{Stream}
 use Rattle.greenwald_khanna_steps.specs.Limits.{slots_ok}
 use Rattle.greenwald_khanna_steps.specs.Sound.{sound, state_of}
-use Rattle.greenwald_khanna_steps.specs.declared.Opened.TheVariants.{Open}
-use Rattle.greenwald_khanna.specs.declared.Inserted.{Inserted}
-use Rattle.greenwald_khanna.specs.declared.Inserted.TheVariants.{Taken, Refused}
 use Rattle.greenwald_khanna_steps.specs.Opening.{opened, opened_list}
 use Rattle.greenwald_khanna.specs.Answers.{inserted, inserted_list}
 use Rattle.greenwald_khanna_steps.proofs.Fresh.{open_passes, opened_length, opened_epsilon, opened_fresh}
@@ -29,7 +28,7 @@ pub record Good (ε : Fraction) (X : List ℕ) (at : Given) : Type 0 where
   pub sound_is : sound at.stream at.list ≡ true
   pub explained : Explains X (state_of at.stream at.list)
 
-pub good_opened : (ε : Fraction) (list : List Entry) (st : Stream) → opened ε list ≡ Open st → Good ε [] (given st (opened_list ε list))
+pub good_opened : (ε : Fraction) (list : List Entry) (st : Stream) → opened ε list ≡ Ok st → Good ε [] (given st (opened_list ε list))
 good_opened ε list st e =
     let f = opened_fresh ε list st e (opened_list ε list) in
     record {
@@ -44,12 +43,12 @@ offered_good : (ε : Fraction) (X : List ℕ) (at : Given) (x : ℕ) → Good ε
     → (t : List ℕ) × ((ys : List ℕ) → taken_by (inserted at.stream at.list x) x ys ≡ t ++ ys) × Good ε (X ++ t) (offered at x)
 offered_good ε X at x g = go (inserted at.stream at.list x) refl
   where
-    go : (a : Inserted) → inserted at.stream at.list x ≡ a
+    go : (a : Result Stream Refusal) → inserted at.stream at.list x ≡ a
         → (t : List ℕ) × ((ys : List ℕ) → taken_by (inserted at.stream at.list x) x ys ≡ t ++ ys) × Good ε (X ++ t) (offered at x)
-    go (Taken next) e =
+    go (Ok next) e =
         let k : Kept at.stream at.list x next (inserted_list at.stream at.list x) = inserted_kept at.stream at.list x next e in
         let same : offered at x ≡ given next (inserted_list at.stream at.list x) =
-        ap (λ (a : Inserted). given (stream_after a at.stream) (inserted_list at.stream at.list x)) e in (
+        ap (λ (a : Result Stream Refusal). given (stream_after a at.stream) (inserted_list at.stream at.list x)) e in (
           x ∷ [],
           λ ys. rw e,
           subst (λ (b : Given). Good ε (X ++ x ∷ []) b) (sym same) (record {
@@ -59,7 +58,7 @@ offered_good ε X at x g = go (inserted at.stream at.list x) refl
             explained = k.explained X g.explained;
           }),
         )
-    go (Refused why) e =
+    go (Err why) e =
         let same : offered at x ≡ at = rw e in
         ([], λ ys. rw e, rw (append-nil X, same) g)
 

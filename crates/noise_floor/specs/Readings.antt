@@ -1,13 +1,10 @@
 -- The readings of the stream that the rules list, inputs that tell its plausible slips apart, and inputs at which the bound is sharp.
 -- Assumes nothing: these are definitions.
-use Rattle.std.specs.Prelude.{◌≡◌, ℕ, List, [], ◌∷◌, replicate, take}
+use Rattle.std.specs.Prelude.{◌≡◌, ℕ, List, [], ◌∷◌, replicate, take, Ok, Err}
 use Rattle.refusal.specs.declared.Refusal.TheVariants.{Full}
 use Rattle.fraction.specs.declared.Fraction.{Fraction}
 use Rattle.entries.specs.declared.Entry.{Entry}
 use Rattle.entries.specs.Entry.{entry, zero_entry}
-use Rattle.greenwald_khanna_steps.specs.declared.Opened.TheVariants as opening
-use Rattle.greenwald_khanna.specs.declared.Inserted.TheVariants as inserting
-use Rattle.greenwald_khanna_told.specs.declared.Answer.TheVariants.{Value}
 use Rattle.greenwald_khanna_steps.specs.Opening.{opened, opened_list}
 use Rattle.greenwald_khanna.specs.Answers.{inserted}
 use Rattle.noise_floor.specs.Demand3.{Given, given, run, asked}
@@ -34,17 +31,17 @@ six = 30 ∷ 10 ∷ 20 ∷ 40 ∷ 25 ∷ 35 ∷ []
 
 pub record StreamReadings : Type 0 where
   -- opening gives the stream that the readings start from
-  pub opens : opened (over 1 4) (replicate 16 zero_entry) ≡ opening.Open (start (over 1 4) 16).stream
+  pub opens : opened (over 1 4) (replicate 16 zero_entry) ≡ Ok (start (over 1 4) 16).stream
   pub opens_zero : opened_list (over 1 4) (entry 7 8 9 ∷ entry 4 5 6 ∷ []) ≡ zero_entry ∷ zero_entry ∷ []
   -- 1: ε 1/4
   pub reading_1 : held (scan (over 1 4) six) ≡ entry 10 1 0 ∷ entry 20 1 1 ∷ entry 30 2 0 ∷ entry 40 2 0 ∷ []
   -- 2: there φ 1/2, 0/1, 1/1, 1/4
-  pub reading_2_half : asked (scan (over 1 4) six) (over 1 2) ≡ Value 30
-  pub reading_2_zero : asked (scan (over 1 4) six) (over 0 1) ≡ Value 10
-  pub reading_2_one : asked (scan (over 1 4) six) (over 1 1) ≡ Value 40
-  pub reading_2_quarter : asked (scan (over 1 4) six) (over 1 4) ≡ Value 10
+  pub reading_2_half : asked (scan (over 1 4) six) (over 1 2) ≡ Ok 30
+  pub reading_2_zero : asked (scan (over 1 4) six) (over 0 1) ≡ Ok 10
+  pub reading_2_one : asked (scan (over 1 4) six) (over 1 1) ≡ Ok 40
+  pub reading_2_quarter : asked (scan (over 1 4) six) (over 1 4) ≡ Ok 10
   -- 5: two slots, and the third observation is refused
-  pub reading_5 : inserted (run (start (over 1 4) 2) (1 ∷ 2 ∷ [])).stream (run (start (over 1 4) 2) (1 ∷ 2 ∷ [])).list 3 ≡ inserting.Refused Full
+  pub reading_5 : inserted (run (start (over 1 4) 2) (1 ∷ 2 ∷ [])).stream (run (start (over 1 4) 2) (1 ∷ 2 ∷ [])).list 3 ≡ Err Full
   -- delta is taken from n before the increment
   pub delta_before : held (scan (over 1 3) (1 ∷ 0 ∷ 0 ∷ [])) ≡ entry 0 1 0 ∷ entry 0 1 1 ∷ entry 1 1 0 ∷ []
   -- an equal band may be deleted, a larger one may not
@@ -56,10 +53,10 @@ pub record StreamReadings : Type 0 where
   -- compression goes from the last entry to the first
   pub from_the_last : held (scan (over 3 8) (0 ∷ 0 ∷ 0 ∷ 0 ∷ [])) ≡ entry 0 1 0 ∷ entry 0 1 0 ∷ entry 0 2 0 ∷ []
   -- the bound is sharp below: r = 2, e = 0, and the answer stands at rank 1 = r - e - 1
-  pub sharp_below : asked (scan (over 1 4) (2 ∷ 0 ∷ 1 ∷ [])) (over 2 3) ≡ Value 0
+  pub sharp_below : asked (scan (over 1 4) (2 ∷ 0 ∷ 1 ∷ [])) (over 2 3) ≡ Ok 0
   -- and above: r = 2, e = 0, and the answer stands at rank 2 = r + e
-  pub sharp_above : asked (scan (over 1 4) (1 ∷ 0 ∷ [])) (over 1 1) ≡ Value 1
+  pub sharp_above : asked (scan (over 1 4) (1 ∷ 0 ∷ [])) (over 1 1) ≡ Ok 1
   -- the Rust's comment has ranks from ⌊(φ - ε)n⌋, which is 2 here, and the answer stands at rank 1
-  pub under_the_comment : asked (scan (over 1 4) (2 ∷ 0 ∷ 1 ∷ [])) (over 15 16) ≡ Value 0
+  pub under_the_comment : asked (scan (over 1 4) (2 ∷ 0 ∷ 1 ∷ [])) (over 15 16) ≡ Ok 0
   -- φ = 0 need not give the least
-  pub zero_not_least : asked (scan (over 3 7) (1 ∷ 1 ∷ 1 ∷ 1 ∷ 0 ∷ [])) (over 0 1) ≡ Value 1
+  pub zero_not_least : asked (scan (over 3 7) (1 ∷ 1 ∷ 1 ∷ 1 ∷ 0 ∷ [])) (over 0 1) ≡ Ok 1

@@ -1,55 +1,38 @@
 // The noise floor of a whole scan, under demand 3: a stream is opened, every observation inserted, a refused one skipped, and a quantile asked.
 #![tactic(auto)]
 
-ghost use Rattle.std.specs.Prelude.{◌≡◌};
-ghost use Rattle.entries.specs.Entry.{entries_of};
-ghost use Rattle.noise_floor.specs.Demand3.{given, stream_after, run};
+ghost use Rattle.std.specs.Prelude.{◌≡◌, map};
+ghost use Rattle.noise_floor.specs.Demand3.{given, run};
 ghost use Rattle.noise_floor.specs.Floor.{FloorPost};
 ghost use Rattle.noise_floor.specs.Promises.{Promises};
 
+use entries::Slot;
 use fraction::Fraction;
-use greenwald_khanna::{Answer, Inserted, Opened, Stream};
+use greenwald_khanna::Stream;
+use refusal::Refusal;
 
 // A whole scan: a stream is opened, every observation inserted, a refused one skipped, and the φ-quantile is the floor.
 // Its contract says demand 3 of this answer and the observations that were accepted.
-pub fn floor(
+pub fn floor<T: Slot>(
     epsilon: Fraction,
-    rows: &mut [[u32; 3]],
+    list: &mut [T],
     observations: &[u32],
     phi: Fraction,
-) -> Answer
-    ensures { FloorPost epsilon (entries_of rows.old) observations.now phi result (entries_of rows.new) }
+) -> Result<u32, Refusal>
+    ensures { FloorPost epsilon (map T.entry list.old) observations.now phi result (map T.entry list.new) }
 {
-    match Stream::open(epsilon, rows) {
-        Opened::Open(stream) => greenwald_khanna::quantile(
-            insert_all(stream, rows, observations),
-            rows,
-            phi,
-        ),
-        Opened::Refused(why) => Answer::Refused(why),
-    }
-}
-
-// The stream after an insert: as it was before where it was refused.
-fn stream_after(inserted: Inserted, before: Stream) -> Stream
-    ensures { result ≡ stream_after inserted before }
-{
-    match inserted {
-        Inserted::Taken(next) => next,
-        Inserted::Refused(_) => before,
-    }
+    let opened = Stream::open(epsilon, list)?;
+    let scanned = insert_all(opened, list, observations);
+    greenwald_khanna::quantile(scanned, list, phi)
 }
 
 // All observations, one after another; a refused one changes nothing.
-fn insert_all(first: Stream, rows: &mut [[u32; 3]], observations: &[u32]) -> Stream
-    ensures { given result (entries_of rows.new) ≡ run (given first (entries_of rows.old)) observations.now }
+fn insert_all<T: Slot>(first: Stream, list: &mut [T], observations: &[u32]) -> Stream
+    ensures { given result (map T.entry list.new) ≡ run (given first (map T.entry list.old)) observations.now }
 {
     let mut stream = first;
-    let mut i = 0;
-    while i < observations.len() {
-        let inserted = greenwald_khanna::insert(stream, rows, observations[i]);
-        stream = stream_after(inserted, stream);
-        i += 1;
+    for v in observations {
+        stream = greenwald_khanna::insert(stream, list, *v).unwrap_or(stream);
     }
     stream
 }

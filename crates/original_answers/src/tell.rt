@@ -1,149 +1,94 @@
 // What a case answers once its observations are in, in the order of the original's stored lines.
+use crate::case::{Case, Lent};
 use crate::summary::Summary;
-use crate::words;
-use ckms::{Average, CKMS, Cma, Last, LastIn};
-use ckms_store::Store;
+use ckms::CKMS;
+use ckms_store::{Ranked, Store};
 use fraction::Fraction;
 use greenwald_khanna::Stream;
-use histogram::{Bound, Counted, Histogram, Sum, Summed};
+use histogram::{Bound, Histogram};
+use mean::Mean;
 use refusal::Refusal;
 
-fn say_refused(why: Refusal) {
-    say::line(b"refused ", why.number());
-}
-
-// A number of a stream, or why not.
-fn say_answer(text: &[u8], answer: greenwald_khanna::Answer) {
+// Says what a call answers, or why it is refused.
+fn told<T, F: FnOnce(T)>(answer: Result<T, Refusal>, say: F)
+    requires { F.IsAlwaysCallable say }
+{
     match answer {
-        greenwald_khanna::Answer::Value(v) => say::line(text, v),
-        greenwald_khanna::Answer::Refused(why) => say_refused(why),
+        Ok(x) => say(x),
+        Err(why) => say::line(b"refused ", why.number()),
     }
 }
 
-// A rank and a value, or why not.
-fn say_ranked(answer: ckms_store::Answer) {
-    match answer {
-        ckms_store::Answer::Given(at) => say::pair(b"query ", at.rank, b" ", at.value),
-        ckms_store::Answer::Refused(why) => say_refused(why),
-    }
+fn say_ranked(at: Ranked) {
+    say::pair(b"query ", at.rank, b" ", at.value);
 }
 
-// A count or a total of a histogram, or why not.
-fn say_total(text: &[u8], answer: Counted) {
-    match answer {
-        Counted::Count(n) => say::line(text, n),
-        Counted::Refused(why) => say_refused(why),
-    }
-}
-
-fn say_sum(answer: Summed) {
-    if let Summed::Refused(why) = answer {
-        say_refused(why);
-        return;
-    }
-    let Summed::Of(sum) = answer else {
-        return;
-    };
+fn say_sum(sum: Option<u64>) {
     match sum {
-        Sum::Nothing => say::words(b"sum none\n"),
-        Sum::Some(x) => say::wide_line(b"sum ", x),
+        Some(x) => say::wide_line(b"sum ", x),
+        None => say::words(b"sum none\n"),
     }
 }
 
-fn say_count(answer: ckms::Counted) {
-    match answer {
-        ckms::Counted::Count(n) => say::line(b"count ", n),
-        ckms::Counted::Refused(why) => say_refused(why),
-    }
-}
-
-fn say_last(answer: LastIn) {
-    if let LastIn::Refused(why) = answer {
-        say_refused(why);
-        return;
-    }
-    let LastIn::Given(last) = answer else {
-        return;
-    };
+fn say_last(last: Option<u32>) {
     match last {
-        Last::Nothing => say::words(b"last none\n"),
-        Last::Value(v) => say::line(b"last ", v),
+        Some(v) => say::line(b"last ", v),
+        None => say::words(b"last none\n"),
     }
 }
 
 // The bits of a number; 0 of anything else.
 fn bits(x: f64) -> u64 {
-    if mean::is_finite(x) {
-        return f64::to_bits(x);
-    }
-    0
+    if mean::is_finite(x) { x.to_bits() } else { 0 }
 }
 
 // The mean's bits, in hexadecimal.
-fn say_bits(x: f64) {
-    say::words(b"mean ");
-    io::print_hex(1, bits(x), 16);
-    say::words(b"\n");
-}
-
-fn say_mean(answer: Average) {
-    if let Average::Refused(why) = answer {
-        say_refused(why);
-        return;
-    }
-    let Average::Given(cma) = answer else {
-        return;
+fn say_mean(mean: Option<Mean>) {
+    let Some(m) = mean else {
+        return say::words(b"mean none\n");
     };
-    match cma {
-        Cma::Nothing => say::words(b"mean none\n"),
-        Cma::Value(m) => say_bits(m.value),
-    }
+    say::words(b"mean ");
+    io::print_hex(1, bits(m.value), 16);
+    say::words(b"\n");
 }
 
 // The entries held, one to a line.
 fn say_entries(rows: &[[u32; 3]], held: u32) {
-    let end = held as usize;
-    if end <= rows.len() {
-        say::rows(b"entry ", &rows[0..end]);
-    }
+    say::rows(b"entry ", rows.get(..held as usize).unwrap_or(&[]));
 }
 
 // The lengths of the blocks, one to a line.
 fn say_blocks(lens: &[u32], blocks: u32) {
-    if blocks == 0 {
-        return;
+    if blocks > 0 {
+        let held = lens.get(..blocks as usize).unwrap_or(&[]);
+        say::list(b"block ", b"\nblock ", held);
     }
-    say::list(
-        b"block ",
-        b"\nblock ",
-        words::part(lens, 0, blocks as usize),
-    );
 }
 
 fn tell_stream(s: Stream, rows: &[[u32; 3]]) {
-    say_answer(b"n ", greenwald_khanna::n(s, rows));
+    told(greenwald_khanna::n(s, rows), |n| say::line(b"n ", n));
     say_entries(rows, s.held);
 }
 
 // What a histogram totals at one of its bounds.
 fn tell_bound(h: Histogram, bounds: &[u32], counts: &[u32], x: u32) {
     let bound = Bound::Finite(x);
-    say_total(b"below ", histogram::total_below(h, bounds, counts, bound));
-    say_total(b"above ", histogram::total_above(h, bounds, counts, bound));
-    say_total(
-        b"between ",
-        histogram::total_between(h, bounds, counts, bound, Bound::PosInf),
-    );
+    let below = histogram::total_below(h, bounds, counts, bound);
+    let above = histogram::total_above(h, bounds, counts, bound);
+    let between = histogram::total_between(h, bounds, counts, bound, Bound::PosInf);
+    told(below, |n| say::line(b"below ", n));
+    told(above, |n| say::line(b"above ", n));
+    told(between, |n| say::line(b"between ", n));
 }
 
 fn tell_histogram(h: Histogram, bounds: &[u32], counts: &[u32]) {
-    let mut bin = 0;
     say::list(b"bin ", b"\nbin ", counts);
-    say_total(b"count ", histogram::count(h, bounds, counts));
-    say_sum(histogram::sum(h, bounds, counts));
-    while bin < bounds.len() {
-        tell_bound(h, bounds, counts, bounds[bin]);
-        bin += 1;
+    told(histogram::count(h, bounds, counts), |n| {
+        say::line(b"count ", n)
+    });
+    told(histogram::sum(h, bounds, counts), say_sum);
+    for x in bounds {
+        tell_bound(h, bounds, counts, *x);
     }
 }
 
@@ -154,39 +99,42 @@ fn tell_store(s: Store, rows: &[[u32; 3]], lens: &[u32]) {
 }
 
 fn tell_ckms(c: CKMS, rows: &[[u32; 3]], lens: &[u32]) {
-    say_count(ckms::count(c, rows, lens));
-    say_last(ckms::last(c, rows, lens));
-    say_mean(ckms::cma(c, rows, lens));
+    told(ckms::count(c, rows, lens), |n| say::line(b"count ", n));
+    told(ckms::last(c, rows, lens), say_last);
+    told(ckms::cma(c, rows, lens), say_mean);
     say::line(b"inserts ", c.inserts);
     say_blocks(lens, c.blocks);
     say_entries(rows, c.held);
 }
 
 // The answer at one fraction of the observations; a histogram has none.
-fn tell_at(told: Summary, rows: &[[u32; 3]], lens: &[u32], q: Fraction) {
-    match told {
-        Summary::Stream(s) => say_answer(b"quantile ", greenwald_khanna::quantile(s, rows, q)),
-        Summary::Store(s) => say_ranked(ckms_store::query(s, rows, lens, q)),
-        Summary::CKMS(c) => say_ranked(ckms::query(c, rows, lens, q)),
-        _ => {}
+fn tell_at(summary: Summary, rows: &[[u32; 3]], lens: &[u32], q: Fraction) {
+    match summary {
+        Summary::Stream(s) => told(greenwald_khanna::quantile(s, rows, q), |v| {
+            say::line(b"quantile ", v)
+        }),
+        Summary::Histogram(_) => {}
+        Summary::Store(s) => told(ckms_store::query(s, rows, lens, q), say_ranked),
+        Summary::CKMS(c) => told(ckms::query(c, rows, lens, q), say_ranked),
     }
 }
 
-// The answers at 0/8, 1/8, .. 8/8.
-fn tell_eighths(told: Summary, rows: &[[u32; 3]], lens: &[u32]) {
-    for num in 0..9 {
-        tell_at(told, rows, lens, Fraction { num, den: 8 });
-    }
-}
-
-// All that a case answers.
-pub fn tell(told: Summary, bounds: &[u32], rows: &[[u32; 3]], numbers: &[u32]) {
-    match told {
+// All that a summary answers; last the answers at 0/8, 1/8, .. 8/8.
+fn tell_all(summary: Summary, bounds: &[u32], rows: &[[u32; 3]], numbers: &[u32]) {
+    match summary {
         Summary::Stream(s) => tell_stream(s, rows),
         Summary::Histogram(h) => tell_histogram(h, bounds, numbers),
         Summary::Store(s) => tell_store(s, rows, numbers),
         Summary::CKMS(c) => tell_ckms(c, rows, numbers),
-        Summary::Refused(why) => say_refused(why),
     }
-    tell_eighths(told, rows, numbers);
+    for num in 0..=8 {
+        tell_at(summary, rows, numbers, Fraction { num, den: 8 });
+    }
+}
+
+// All that a case answers.
+pub fn tell(answer: Result<Summary, Refusal>, case: Case<'_>, lent: &Lent<'_>) {
+    told(answer, |summary| {
+        tell_all(summary, case.bounds(), lent.rows, lent.numbers)
+    });
 }

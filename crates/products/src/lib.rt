@@ -7,16 +7,16 @@ ghost use Rattle.fraction.specs.Allowed.{is_epsilon, within};
 ghost use Rattle.fraction.specs.Products.{floor_mul, p_of, period};
 ghost use Rattle.fraction.specs.Band.{band};
 
-use fraction::{Fraction, wide};
+use fraction::Fraction;
 
-// The whole-number logarithm to base 2 of p - d + 1, by counting leading zeros. Past p the difference is 0, and so is the band.
+// The whole-number logarithm to base 2 of p - d + 1. Past p the difference is 0, and so is the band.
 pub fn band(p: u32, d: u32) -> u32
     ensures { result ≡ band p d }
 {
     if p < d {
         return 0;
     }
-    63 - u64::leading_zeros(wide(p - d) + 1)
+    (u64::from(p - d) + 1).ilog2()
 }
 
 // ⌊f · n⌋: a quantile's rank r = ⌊φn⌋ and a stream's e = ⌊εn⌋. A denominator of 0 gives 0.
@@ -26,7 +26,7 @@ pub fn floor_mul(f: Fraction, n: u32) -> u64
     if f.den == 0 {
         return 0;
     }
-    wide(f.num) * wide(n) / wide(f.den)
+    u64::from(f.num) * u64::from(n) / u64::from(f.den)
 }
 
 // p = ⌊2εn⌋ of an allowed ε; 0 of any other fraction.
@@ -34,7 +34,7 @@ pub fn p(f: Fraction, n: u32) -> u32
     ensures { result ≡ within (is_epsilon f) (p_of f n) }
 {
     if f.is_epsilon() {
-        return (2 * wide(f.num) * wide(n) / wide(f.den)) as u32;
+        return (2 * u64::from(f.num) * u64::from(n) / u64::from(f.den)) as u32;
     }
     0
 }
@@ -46,5 +46,5 @@ pub fn period(f: Fraction) -> u32
     if f.num == 0 {
         return 0;
     }
-    (wide(f.den) / (2 * wide(f.num))) as u32
+    (u64::from(f.den) / (2 * u64::from(f.num))) as u32
 }

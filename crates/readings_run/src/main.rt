@@ -2,10 +2,10 @@
 #![tactic(auto)]
 
 use ckms::CKMS;
-use ckms_store::Answer;
 use fraction::Fraction;
 use greenwald_khanna::Stream;
-use histogram::{Bound, Counted, Histogram, Sum, Summed};
+use histogram::{Bound, Histogram};
+use refusal::Refusal;
 
 // A line for one opening: the fraction, and `opens` or the refusal.
 fn say_opened(num: u32, den: u32) {
@@ -14,57 +14,40 @@ fn say_opened(num: u32, den: u32) {
     say::words(b"/");
     say::number(den);
     match Stream::open(Fraction { num, den }, &mut rows) {
-        greenwald_khanna::Opened::Open(_) => say::words(b" opens\n"),
-        greenwald_khanna::Opened::Refused(why) => say::line(b" refused ", why.number()),
+        Ok(_) => say::words(b" opens\n"),
+        Err(why) => say::line(b" refused ", why.number()),
     }
 }
 
 // Reading 6: the ends of what ε may be.
 fn reading_6() {
-    say_opened(1, 2);
-    say_opened(1, 65536);
-    say_opened(501, 1000);
-    say_opened(0, 7);
-    say_opened(1, 0);
-    say_opened(1, 65537);
-}
-
-// The histogram after an insert: as it was before where it is refused.
-fn counted(answer: histogram::Inserted, before: Histogram) -> Histogram {
-    match answer {
-        histogram::Inserted::Taken(next) => next,
-        histogram::Inserted::Refused(_) => before,
+    for (num, den) in [(1, 2), (1, 65536), (501, 1000), (0, 7), (1, 0), (1, 65537)] {
+        say_opened(num, den);
     }
 }
 
-// Inserts 0, 1, .. below `end`.
+// Inserts 0, 1, .. below `end`; a refused one leaves the histogram as it was.
 fn count_below(start: Histogram, bounds: &[u32], counts: &mut [u32], end: u32) -> Histogram {
     let mut h = start;
     for v in 0..end {
-        h = counted(histogram::insert(h, bounds, counts, v), h);
+        h = histogram::insert(h, bounds, counts, v).unwrap_or(h);
     }
     h
 }
 
-fn say_sum(answer: Summed) {
-    if let Summed::Of(sum) = answer {
-        if let Sum::Some(x) = sum {
-            say::wide_line(b"sum ", x);
-        }
-    }
-}
-
-fn say_total(text: &[u8], answer: Counted) {
+fn say_total(text: &[u8], answer: Result<u32, Refusal>) {
     match answer {
-        Counted::Count(n) => say::line(text, n),
-        Counted::Refused(why) => say::line(b"refused ", why.number()),
+        Ok(n) => say::line(text, n),
+        Err(why) => say::line(b"refused ", why.number()),
     }
 }
 
 // What the histogram of reading 8 tells.
 fn say_histogram(h: Histogram, bounds: &[u32], counts: &[u32]) {
     say::list(b"", b" ", counts);
-    say_sum(histogram::sum(h, bounds, counts));
+    if let Ok(Some(sum)) = histogram::sum(h, bounds, counts) {
+        say::wide_line(b"sum ", sum);
+    }
     say_total(
         b"above 0 is ",
         histogram::total_above(h, bounds, counts, Bound::Finite(0)),
@@ -79,27 +62,18 @@ fn say_histogram(h: Histogram, bounds: &[u32], counts: &[u32]) {
 fn reading_8() {
     let bounds = [10u32, 256, 1987, 1990];
     let mut counts = [7u32; 5];
-    let opened = Histogram::open(&bounds, &mut counts);
-    let histogram::Opened::Open(empty) = opened else {
+    let Ok(empty) = Histogram::open(&bounds, &mut counts) else {
         return;
     };
     let h = count_below(empty, &bounds, &mut counts, 2048);
     say_histogram(h, &bounds, &counts);
 }
 
-// The CKMS after an insert: as it was before where it is refused.
-fn taken(answer: ckms::Inserted, before: CKMS) -> CKMS {
-    match answer {
-        ckms::Inserted::Taken(next) => next,
-        ckms::Inserted::Refused(_) => before,
-    }
-}
-
-// Inserts 1, 2, .. up to `end`.
+// Inserts 1, 2, .. up to `end`; a refused one leaves the CKMS as it was.
 fn insert_up_to(start: CKMS, rows: &mut [[u32; 3]], lens: &mut [u32], end: u32) -> CKMS {
     let mut c = start;
-    for before in 0..end {
-        c = taken(ckms::insert(c, rows, lens, before + 1), c);
+    for v in 1..=end {
+        c = ckms::insert(c, rows, lens, v).unwrap_or(c);
     }
     c
 }
@@ -107,8 +81,8 @@ fn insert_up_to(start: CKMS, rows: &mut [[u32; 3]], lens: &mut [u32], end: u32) 
 // A line for one query: its rank and its value.
 fn say_query(c: CKMS, rows: &[[u32; 3]], lens: &[u32], num: u32, den: u32) {
     match ckms::query(c, rows, lens, Fraction { num, den }) {
-        Answer::Given(at) => say::pair(b"rank ", at.rank, b", value ", at.value),
-        Answer::Refused(why) => say::line(b"query refused ", why.number()),
+        Ok(at) => say::pair(b"rank ", at.rank, b", value ", at.value),
+        Err(why) => say::line(b"query refused ", why.number()),
     }
 }
 
@@ -116,15 +90,13 @@ fn say_query(c: CKMS, rows: &[[u32; 3]], lens: &[u32], num: u32, den: u32) {
 fn reading_13() {
     let mut rows = [[7u32; 3]; 4096];
     let mut lens = [7u32; 4096];
-    let opened = CKMS::open(Fraction { num: 1, den: 1000 }, &mut rows, &mut lens);
-    let ckms::Opened::Open(fresh) = opened else {
+    let Ok(fresh) = CKMS::open(Fraction { num: 1, den: 1000 }, &mut rows, &mut lens) else {
         return;
     };
     let c = insert_up_to(fresh, &mut rows, &mut lens, 1000);
-    say_query(c, &rows, &lens, 0, 1);
-    say_query(c, &rows, &lens, 998, 1000);
-    say_query(c, &rows, &lens, 999, 1000);
-    say_query(c, &rows, &lens, 1, 1);
+    for (num, den) in [(0, 1), (998, 1000), (999, 1000), (1, 1)] {
+        say_query(c, &rows, &lens, num, den);
+    }
 }
 
 fn main() {

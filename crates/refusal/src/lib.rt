@@ -4,21 +4,21 @@
 ghost use Rattle.std.specs.Prelude.{◌≡◌};
 ghost use Rattle.refusal.specs.Number.{number_of};
 
-// Why a call is refused, by the names of the refusal table.
-#[derive(Clone, Copy)]
+// Why a call is refused, by the names and numbers of the refusal table.
+#[derive(Clone, Copy, Debug, PartialEq, Eq)]
 pub enum Refusal {
-    Slots,
-    Epsilon,
-    Block,
-    Damaged,
-    Count,
-    Full,
-    Phi,
-    Empty,
-    BoundsEmpty,
-    BoundsMany,
-    BoundsOrder,
-    File,
+    Slots = 1,
+    Epsilon = 2,
+    Block = 3,
+    Damaged = 4,
+    Count = 5,
+    Full = 6,
+    Phi = 7,
+    Empty = 8,
+    BoundsEmpty = 9,
+    BoundsMany = 10,
+    BoundsOrder = 11,
+    File = 12,
 }
 
 impl Refusal {
@@ -26,19 +26,6 @@ impl Refusal {
     pub fn number(self) -> u32
         ensures { result ≡ number_of self }
     {
-        match self {
-            Refusal::Slots => 1,
-            Refusal::Epsilon => 2,
-            Refusal::Block => 3,
-            Refusal::Damaged => 4,
-            Refusal::Count => 5,
-            Refusal::Full => 6,
-            Refusal::Phi => 7,
-            Refusal::Empty => 8,
-            Refusal::BoundsEmpty => 9,
-            Refusal::BoundsMany => 10,
-            Refusal::BoundsOrder => 11,
-            Refusal::File => 12,
-        }
+        self as u32
     }
 }

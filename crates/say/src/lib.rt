@@ -1,5 +1,6 @@
 // Lines on standard output for the programs: words, and numbers in decimal.
 // No contract can say what is written, so none stands here: every function is proved safe and ending, and what a program writes is compared.
+// Written by the kit's io and not by println!, which would assume one thing more of the system (errno) and give every caller an io::Result to pass on.
 #![tactic(auto)]
 
 // Words, and no line's end.
@@ -9,12 +10,12 @@ pub fn words(text: &[u8]) {
 
 // A number, and no line's end.
 pub fn number(n: u32) {
-    io::print_decimal(1, n as u64);
+    io::print_decimal(1, u64::from(n));
 }
 
 // A line: words, and a number behind them.
 pub fn line(text: &[u8], n: u32) {
-    wide_line(text, n as u64);
+    wide_line(text, u64::from(n));
 }
 
 // The same line with a number of 64 bits.
@@ -33,30 +34,26 @@ pub fn pair(text: &[u8], first: u32, between: &[u8], second: u32) {
 
 // A line of numbers: words before the first, and words between any two. Where those break the line, it is one number to a line.
 pub fn list(text: &[u8], between: &[u8], numbers: &[u32]) {
-    let mut i = 0;
     words(text);
-    while i < numbers.len() {
-        if 0 < i {
+    for (i, n) in numbers.iter().enumerate() {
+        if i > 0 {
             words(between);
         }
-        number(numbers[i]);
-        i += 1;
+        number(*n);
     }
     words(b"\n");
 }
 
 // A line of a row's three numbers, with words before them.
-fn row(text: &[u8], row: [u32; 3]) {
+fn row(text: &[u8], [v, g, delta]: [u32; 3]) {
     words(text);
-    number(row[0]);
-    pair(b" ", row[1], b" ", row[2]);
+    number(v);
+    pair(b" ", g, b" ", delta);
 }
 
 // A line for each row.
 pub fn rows(text: &[u8], rows: &[[u32; 3]]) {
-    let mut i = 0;
-    while i < rows.len() {
-        row(text, rows[i]);
-        i += 1;
+    for numbers in rows {
+        row(text, *numbers);
     }
 }

@@ -1,6 +1,6 @@
 -- What is taken is exactly the files of scans. Assumes nothing.
 use mathlib.Core.Path.{◌≡◌, refl, sym, ap, subst, ◌∙◌}
-use mathlib.Core.Option.{some}
+use Rattle.std.proofs.Common.{Some}
 use mathlib.Core.List.{List, ◌∷◌, ◌++◌}
 use Prim.Native.Nat.{ℕ, suc, ◌+◌, ◌*◌, ◌/◌, ◌^◌, ◌<◌}
 use native.Mathlib.Omega.{arith}
@@ -167,4 +167,4 @@ module _ (s : Scan) (fits : Fits s) where
 
 pub encoded_is_taken : EncodedIsTaken
 unfolding EncodedIsTaken
-encoded_is_taken s fits = facts_taken (encoded s) (facts s fits) ∙ ap some (scan-back s fits)
+encoded_is_taken s fits = facts_taken (encoded s) (facts s fits) ∙ ap Some (scan-back s fits)

@@ -1,7 +1,7 @@
 -- What the tests of the layout say, as facts; and where the parts of a scan stand in its words. Assumes nothing.
 use mathlib.Core.Path.{◌≡◌, refl, sym, ap, ◌∙◌}
 use mathlib.Core.Bool.{Bool, true, false, cond, ◌&&◌, and-eq-true_iff}
-use mathlib.Core.Option.{Option, none, some, some-injective}
+use Rattle.std.proofs.Common.{Option, Some, None, Ok, Err}
 use mathlib.Core.List.{List, [], ◌∷◌, ◌++◌}
 use Prim.Native.Nat.{ℕ, zero, suc, ◌+◌, ◌*◌, ◌/◌, ◌%◌, ◌≤◌, ◌<◌}
 use native.Mathlib.Omega.{arith}
@@ -12,7 +12,6 @@ use Rattle.fraction.specs.declared.Fraction.{Fraction}
 use Rattle.refusal.specs.declared.Refusal.{Refusal}
 use Rattle.refusal.specs.declared.Refusal.TheVariants.{File}
 use Rattle.scan_file.specs.declared.Layout.{Layout}
-use Rattle.scan_file.specs.declared.Parsed.TheVariants.{Taken, Refused}
 use Rattle.scan_file.specs.Answers.{answer}
 use Rattle.scan_file.specs.Layout.{Scan, flat, well_formed, scan_of, parsed, fraction_count, observation_count, fraction_words, observations, fraction_at, observation_at, fractions_at, observations_at}
 use Rattle.scan_file.specs.Words.{word_at, each}
@@ -56,24 +55,24 @@ module _ (bytes : List ℕ) where
       )
 
   -- bytes that are taken are well formed, and mean what stands in them
-  pub taken_facts : (s : Scan) → parsed bytes ≡ some s → Facts bytes × (s ≡ scan_of bytes)
+  pub taken_facts : (s : Scan) → parsed bytes ≡ Some s → Facts bytes × (s ≡ scan_of bytes)
   unfolding parsed
   taken_facts s h = go (well_formed bytes) refl h
     where
-      go : (t : Bool) → well_formed bytes ≡ t → cond t (some (scan_of bytes)) none ≡ some s → Facts bytes × (s ≡ scan_of bytes)
-      go true e h = (well_facts e, sym (some-injective (scan_of bytes) s h))
-      go false e h = absurd (let z : ◌≡◌ {A = ℕ} 0 1 = cc in omega arith)
+      go : (t : Bool) → well_formed bytes ≡ t → cond t (Some (scan_of bytes)) None ≡ Some s → Facts bytes × (s ≡ scan_of bytes)
+      go true e h = (well_facts e, cc)
+      go false e h = absurd cc
 
-  pub facts_taken : Facts bytes → parsed bytes ≡ some (scan_of bytes)
+  pub facts_taken : Facts bytes → parsed bytes ≡ Some (scan_of bytes)
   unfolding parsed
   facts_taken f = rw (facts_well f)
 
   -- bytes that break a rule are refused
-  pub breaks : (Facts bytes → ⊥) → Refused File ≡ answer (parsed bytes)
+  pub breaks : (Facts bytes → ⊥) → Err File ≡ answer (parsed bytes)
   unfolding parsed
   breaks wrong = go (well_formed bytes) refl
     where
-      go : (t : Bool) → well_formed bytes ≡ t → Refused File ≡ answer (cond t (some (scan_of bytes)) none)
+      go : (t : Bool) → well_formed bytes ≡ t → Err File ≡ answer (cond t (Some (scan_of bytes)) None)
       go true e = absurd (wrong (well_facts e))
       go false e = refl
 
@@ -83,12 +82,12 @@ module _ (bytes : List ℕ) where
     count_read = many ∙ ap (λ (n : ℕ). word_at bytes (4 + n)) few
 
     pub keeps : (num den : ℕ) → Facts bytes → num ≡ word_at bytes 1 → den ≡ word_at bytes 2
-        → Taken (record { epsilon = record { num = num; den = den }; fractions = w / 2; observations = o }) ≡ answer (parsed bytes)
+        → Ok (record { epsilon = record { num = num; den = den }; fractions = w / 2; observations = o }) ≡ answer (parsed bytes)
     keeps num den f a b =
         let p : w / 2 ≡ length (scan_of bytes).fractions = ap (λ (n : ℕ). n / 2) few ∙ sym (length_each (fraction_at bytes) 0 (fraction_count bytes / 2)) in
         let from = observation_at bytes (fraction_count bytes / 2) in
         let q : o ≡ length (scan_of bytes).observations = count_read ∙ sym (length_each from 0 (observation_count bytes)) in
-        (λ i. Taken (record { epsilon = record { num = a i; den = b i }; fractions = p i; observations = q i })) ∙ sym (ap answer (facts_taken f))
+        (λ i. Ok (record { epsilon = record { num = a i; den = b i }; fractions = p i; observations = q i })) ∙ sym (ap answer (facts_taken f))
 
 -- the scan that a layout says
 abbrev pub scan_at : List ℕ → Layout → Scan
@@ -100,12 +99,12 @@ scan_at bytes l = record {
 
 module _ (bytes : List ℕ) where
   -- the scan of the layout that `parse` gives, and the most fractions
-  pub layout_taken : (l : Layout) → Taken l ≡ answer (parsed bytes) → (parsed bytes ≡ some (scan_at bytes l)) × (l.fractions ≤ 64)
+  pub layout_taken : (l : Layout) → Ok l ≡ answer (parsed bytes) → (parsed bytes ≡ Some (scan_at bytes l)) × (l.fractions ≤ 64)
   layout_taken l h = go (parsed bytes) refl h
     where
-      go : (o : Option Scan) → parsed bytes ≡ o → Taken l ≡ answer o → (parsed bytes ≡ some (scan_at bytes l)) × (l.fractions ≤ 64)
-      go none e h = absurd (let z : ◌≡◌ {A = ℕ} 0 1 = cc in omega arith)
-      go (some s) e h =
+      go : (o : Option Scan) → parsed bytes ≡ o → Ok l ≡ answer o → (parsed bytes ≡ Some (scan_at bytes l)) × (l.fractions ≤ 64)
+      go None e h = absurd cc
+      go (Some s) e h =
           let t = taken_facts bytes s e in
           let f = t.0 in
           let k = fraction_count bytes / 2 in
@@ -128,14 +127,14 @@ module _ (bytes : List ℕ) where
             observations = observations_at bytes (q i) (r i);
           }
           in
-          (e ∙ ap some (t.1 ∙ whole), omega arith)
+          (e ∙ ap Some (t.1 ∙ whole), omega arith)
 
-  pub layout_refused : (why : Refusal) → Refused why ≡ answer (parsed bytes) → parsed bytes ≡ none
+  pub layout_refused : (why : Refusal) → Err why ≡ answer (parsed bytes) → parsed bytes ≡ None
   layout_refused why h = go (parsed bytes) refl h
     where
-      go : (o : Option Scan) → parsed bytes ≡ o → Refused why ≡ answer o → parsed bytes ≡ none
-      go none e h = e
-      go (some s) e h = absurd (let z : ◌≡◌ {A = ℕ} 0 1 = cc in omega arith)
+      go : (o : Option Scan) → parsed bytes ≡ o → Err why ≡ answer o → parsed bytes ≡ None
+      go None e h = e
+      go (Some s) e h = absurd cc
 
 -- the words of fractions
 pub length_flat : (fs : List Fraction) → length (flat fs) ≡ 2 * length fs

@@ -1,7 +1,6 @@
 -- The scan file: what it means, which bytes it has, and how it is read back.
 -- Assumes nothing: these are definitions.
-use Rattle.std.specs.Prelude.{ℕ, ◌+◌, ◌*◌, ◌/◌, ◌%◌, ◌^◌, ◌≤◌, Bool, cond, ◌&&◌, List, [], ◌∷◌, ◌++◌, leb, eqb, length}
-use Rattle.std.proofs.Math.Option.{Option, none, some}
+use Rattle.std.specs.Prelude.{ℕ, ◌+◌, ◌*◌, ◌/◌, ◌%◌, ◌^◌, ◌≤◌, Bool, cond, ◌&&◌, List, [], ◌∷◌, ◌++◌, leb, eqb, length, Option, Some, None}
 use Rattle.fraction.specs.declared.Fraction.{Fraction}
 use Rattle.scan_file.specs.Words.{bytes_of, word_at, each, Below}
 
@@ -83,4 +82,4 @@ scan_of bytes = record {
 
 -- the scan in the bytes, if they are a scan file
 unfoldable pub parsed : List ℕ → Option Scan
-parsed bytes = cond (well_formed bytes) (some (scan_of bytes)) none
+parsed bytes = cond (well_formed bytes) (Some (scan_of bytes)) None

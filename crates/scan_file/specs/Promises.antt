@@ -1,32 +1,31 @@
 -- What is promised of the layout, each statement under its name; the contract of `promises` states them all.
 -- Assumes nothing: these are definitions.
-use Rattle.std.specs.Prelude.{◌≡◌, List, [], ◌∷◌, ℕ, ◌≤◌, ◌<◌, length, get_or}
-use Rattle.std.proofs.Math.Option.{some}
+use Rattle.std.specs.Prelude.{◌≡◌, List, [], ◌∷◌, ℕ, ◌≤◌, ◌<◌, length, get_or, Some}
 use Rattle.fraction.specs.declared.Fraction.{Fraction}
 use Rattle.scan_file.specs.Layout.{Scan, Fits, encoded, parsed, file_bytes, fraction_at, observation_at}
 use Rattle.scan_file.specs.Words.{Below}
 
 -- the file of a scan is taken, and means that scan
 unfoldable pub EncodedIsTaken : Type 0
-EncodedIsTaken = (s : Scan) → Fits s → parsed (encoded s) ≡ some s
+EncodedIsTaken = (s : Scan) → Fits s → parsed (encoded s) ≡ Some s
 
 -- bytes that are taken are the file of the scan that they mean, and nothing else
 unfoldable pub TakenIsEncoded : Type 0
-TakenIsEncoded = (bytes : List ℕ) → Below 256 bytes → (s : Scan) → parsed bytes ≡ some s → Fits s × (encoded s ≡ bytes)
+TakenIsEncoded = (bytes : List ℕ) → Below 256 bytes → (s : Scan) → parsed bytes ≡ Some s → Fits s × (encoded s ≡ bytes)
 
 -- no file is longer than the limit
 unfoldable pub NoneLonger : Type 0
-NoneLonger = (bytes : List ℕ) (s : Scan) → parsed bytes ≡ some s → length bytes ≤ file_bytes
+NoneLonger = (bytes : List ℕ) (s : Scan) → parsed bytes ≡ Some s → length bytes ≤ file_bytes
 
 -- where fraction i and observation i of the scan stand in the file
 unfoldable pub FractionStands : Type 0
 FractionStands =
-    (bytes : List ℕ) (s : Scan) → parsed bytes ≡ some s
+    (bytes : List ℕ) (s : Scan) → parsed bytes ≡ Some s
     → (i : ℕ) (d : Fraction) → i < length s.fractions → get_or s.fractions i d ≡ fraction_at bytes i
 
 unfoldable pub ObservationStands : Type 0
 ObservationStands =
-    (bytes : List ℕ) (s : Scan) → parsed bytes ≡ some s
+    (bytes : List ℕ) (s : Scan) → parsed bytes ≡ Some s
     → (i : ℕ) → i < length s.observations → get_or s.observations i 0 ≡ observation_at bytes (length s.fractions) i
 
 -- ε 1/4, the fraction 1/2, the observations 30 and 1000: 36 bytes

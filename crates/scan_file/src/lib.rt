@@ -19,57 +19,41 @@ pub struct Layout {
     pub observations: u32,
 }
 
-#[derive(Clone, Copy)]
-pub enum Parsed {
-    Taken(Layout),
-    Refused(Refusal),
-}
-
 // The byte at a place, and 0 behind the end.
-fn byte_at(bytes: &[u8], at: usize) -> u32
-    ensures { (result ≡ get_or bytes.now at 0) × (result < 256) }
+fn byte_at(bytes: &[u8], at: usize) -> u8
+    ensures { result ≡ get_or bytes.now at 0 }
 {
-    if at < bytes.len() {
-        return bytes[at] as u32;
-    }
-    0
+    bytes.get(at).copied().unwrap_or(0)
 }
 
 // Word i.
 fn word_at(bytes: &[u8], i: usize) -> u32
     requires { i < 2 ^ 40 }
-    ensures { (result ≡ word_at bytes.now i) × (result < 2 ^ 32) }
+    ensures { result ≡ word_at bytes.now i }
 {
     let at = 4 * i;
-    byte_at(bytes, at)
-        + 256 * byte_at(bytes, at + 1)
-        + 65536 * byte_at(bytes, at + 2)
-        + 16777216 * byte_at(bytes, at + 3)
+    u32::from_le_bytes([
+        byte_at(bytes, at),
+        byte_at(bytes, at + 1),
+        byte_at(bytes, at + 2),
+        byte_at(bytes, at + 3),
+    ])
 }
 
 // Reads the counts, and tests them and the length. A count is tested against its limit before anything is reckoned from it; what a short file
 // lacks is read as 0, and its length, tested last, refuses it.
-pub fn parse(bytes: &[u8]) -> Parsed
+pub fn parse(bytes: &[u8]) -> Result<Layout, Refusal>
     ensures { result ≡ answer (parsed bytes.now) }
 {
-    if word_at(bytes, 0) != 2 {
-        return Parsed::Refused(Refusal::File);
-    }
     let words = word_at(bytes, 3);
-    if Layout::FRACTION_WORDS < words {
-        return Parsed::Refused(Refusal::File);
-    }
-    if words % 2 != 0 {
-        return Parsed::Refused(Refusal::File);
+    if word_at(bytes, 0) != 2 || words > Layout::FRACTION_WORDS || words % 2 != 0 {
+        return Err(Refusal::File);
     }
     let count = word_at(bytes, 4 + words as usize);
-    if Layout::OBSERVATIONS < count {
-        return Parsed::Refused(Refusal::File);
+    if count > Layout::OBSERVATIONS || bytes.len() != 4 * (5 + words as usize + count as usize) {
+        return Err(Refusal::File);
     }
-    if bytes.len() != 4 * (5 + words as usize + count as usize) {
-        return Parsed::Refused(Refusal::File);
-    }
-    Parsed::Taken(Layout {
+    Ok(Layout {
         epsilon: Fraction {
             num: word_at(bytes, 1),
             den: word_at(bytes, 2),

@@ -1,5 +1,6 @@
 -- Demand 3 of a scan that stops at the first refusal: the accepted observations are the first n, and they explain the stream.
 -- Assumes nothing.
+use Rattle.std.specs.Prelude.{Ok}
 use mathlib.Core.Path.{◌≡◌, sym, ◌∙◌}
 use mathlib.Core.List.{List, []}
 use native.Mathlib.Omega.{arith}
@@ -7,7 +8,6 @@ use lib.ListN.{take, length-take}
 use Rattle.entries.specs.declared.Entry.{Entry}
 use Rattle.entries.proofs.Maps.{same_words}
 use Rattle.greenwald_khanna_steps.specs.declared.Stream.{Stream}
-use Rattle.greenwald_khanna_steps.specs.declared.Opened.TheVariants.{Open}
 use Rattle.greenwald_khanna_steps.specs.Opening.{opened, opened_list}
 use Rattle.noise_floor.proofs.Bounds.{good_opened, good_asked}
 use Rattle.scan_file.specs.Layout.{Scan}
@@ -15,7 +15,7 @@ use Rattle.scan_put.proofs.Texts.{put_one}
 use Rattle.scan_insert.proofs.Going.{Went, insert_good}
 use Rattle.scan_lines.specs.Promises.{ValuesBounded, AllOrRefused, OneReport, end_from}
 
-module _ (s : Scan) (list : List Entry) (st : Stream) (e : opened s.epsilon list ≡ Open st) where
+module _ (s : Scan) (list : List Entry) (st : Stream) (e : opened s.epsilon list ≡ Ok st) where
   went : Went s.epsilon [] s.observations (end_from s list st)
   went = insert_good s.epsilon [] s.observations st (opened_list s.epsilon list) (good_opened s.epsilon list st e)
 
@@ -32,7 +32,7 @@ pub all_or_refused : AllOrRefused
 unfolding AllOrRefused
 all_or_refused s list st e =
     let w = went s list st e in
-    (λ z. counted s list st e ∙ w.whole z, λ z. let h = w.cut z in omega (arith, counted s list st e))
+    (λ z. counted s list st e ∙ w.whole z, λ why z. let h = w.cut why z in omega (arith, counted s list st e))
 
 pub one_report : OneReport
 unfolding OneReport

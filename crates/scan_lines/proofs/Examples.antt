@@ -1,6 +1,6 @@
 -- The worked outputs, by computation. Assumes nothing.
+use Rattle.std.specs.Prelude.{Option, Some}
 use mathlib.Core.Path.{◌≡◌, refl, ap, ◌∙◌}
-use mathlib.Core.Option.{Option, some}
 use native.Mathlib.Omega.{arith}
 use lib.ListN.{replicate}
 use Rattle.fraction.specs.Band.{halvings}
@@ -23,7 +23,7 @@ use Rattle.scan_lines.specs.Promises.{output, reading2, Reading2, blank, BlankSc
 use Rattle.scan_lines.specs.Report.{report_of}
 
 -- the file of a scan is read back
-read : (s : Scan) → Fits s → output (encoded s) ≡ texts (report_of (some s) (replicate 4096 zero_entry)).lines
+read : (s : Scan) → Fits s → output (encoded s) ≡ texts (report_of (Some s) (replicate 4096 zero_entry)).lines
 unfolding EncodedIsTaken
 read s h = ap (λ (o : Option Scan). texts (report_of o (replicate 4096 zero_entry)).lines) (encoded_is_taken s h)
 

@@ -1,17 +1,16 @@
 -- What is promised of the scan program's report beside its contract, each statement under its name; the contract of `promises` states them all.
 -- Assumes nothing: these are definitions.
-use Rattle.std.specs.Prelude.{◌≡◌, ℕ, ◌<◌, List, [], ◌∷◌, length, take, replicate}
+use Rattle.std.specs.Prelude.{◌≡◌, ℕ, ◌<◌, List, [], ◌∷◌, length, take, replicate, codes, Some, None, Ok}
+use Rattle.refusal.specs.declared.Refusal.{Refusal}
 use Rattle.fraction.specs.declared.Fraction.{Fraction}
 use Rattle.entries.specs.declared.Entry.{Entry}
 use Rattle.entries.specs.Entry.{entries_of, zero_entry}
 use Rattle.entries.specs.Promises.{Threes}
 use Rattle.greenwald_khanna_steps.specs.declared.Stream.{Stream}
-use Rattle.greenwald_khanna_steps.specs.declared.Opened.TheVariants.{Open}
 use Rattle.greenwald_khanna_steps.specs.Opening.{opened, opened_list}
 use Rattle.greenwald_khanna.specs.Answers.{quantiled}
 use Rattle.noise_floor.specs.Demand3.{Bounded}
 use Rattle.scan_file.specs.Layout.{Scan, encoded, parsed}
-use Rattle.scan_put.specs.Ascii.{ascii}
 use Rattle.scan_insert.specs.Inserts.{End, insert_all}
 use Rattle.scan_write.specs.ScanLines.{texts}
 use Rattle.scan_lines.specs.Report.{report_of, ReportPost}
@@ -27,15 +26,15 @@ accepted s e = take e.ran.stream.n s.observations
 -- demand 3 of every value that is written: it is within the ranks of the accepted observations, and an allowed φ has one as soon as n ≥ 1
 unfoldable pub ValuesBounded : Type 0
 ValuesBounded =
-    (s : Scan) (list : List Entry) (st : Stream) → opened s.epsilon list ≡ Open st → (φ : Fraction)
+    (s : Scan) (list : List Entry) (st : Stream) → opened s.epsilon list ≡ Ok st → (φ : Fraction)
     → Bounded s.epsilon φ (accepted s (end_from s list st)) (quantiled (end_from s list st).ran.stream (end_from s list st).list φ)
 
 -- all observations are taken, or a refusal stopped them before the last
 unfoldable pub AllOrRefused : Type 0
 AllOrRefused =
-    (s : Scan) (list : List Entry) (st : Stream) → opened s.epsilon list ≡ Open st
-    → ((end_from s list st).ran.refused ≡ 0 → (end_from s list st).ran.stream.n ≡ length s.observations)
-    × (((end_from s list st).ran.refused ≡ 0 → ⊥) → (end_from s list st).ran.stream.n < length s.observations)
+    (s : Scan) (list : List Entry) (st : Stream) → opened s.epsilon list ≡ Ok st
+    → ((end_from s list st).ran.refused ≡ None → (end_from s list st).ran.stream.n ≡ length s.observations)
+    × ((why : Refusal) → (end_from s list st).ran.refused ≡ Some why → (end_from s list st).ran.stream.n < length s.observations)
 
 -- any two outcomes that the contract of `report` allows for one input coincide: the text, its length, and every word of the lent rows
 unfoldable pub OneReport : Type 0
@@ -56,7 +55,7 @@ reading2 = record {
 }
 
 unfoldable pub Reading2 : Type 0
-Reading2 = output (encoded reading2) ≡ ascii "taken 6\nheld 4\n1/2 30\n0/1 10\n1/1 40\n"
+Reading2 = output (encoded reading2) ≡ codes "taken 6\nheld 4\n1/2 30\n0/1 10\n1/1 40\n"
 
 -- no observations: each fraction is refused, an unfit one with PHI and a fit one with EMPTY
 abbrev pub blank : Scan
@@ -67,7 +66,7 @@ blank = record {
 }
 
 unfoldable pub BlankScan : Type 0
-BlankScan = output (encoded blank) ≡ ascii "taken 0\nheld 0\n1/2 refused 8\n3/2 refused 7\n"
+BlankScan = output (encoded blank) ≡ codes "taken 0\nheld 0\n1/2 refused 8\n3/2 refused 7\n"
 
 pub record Promises : Type 0 where
   pub values_bounded : ValuesBounded

@@ -13,12 +13,8 @@ fn put(out: &mut [u8], at: usize, text: &[u8]) -> usize
     requires { at + length text.now ≤ length out.old }
     ensures { Put text.now at out.old result out.new }
 {
-    let mut i = 0;
-    while i < text.len() {
-        out[at + i] = text[i];
-        i += 1;
-    }
-    at + i
+    out[at..at + text.len()].copy_from_slice(text);
+    at + text.len()
 }
 
 // Puts a number in decimal.
@@ -27,7 +23,7 @@ fn put_number(out: &mut [u8], at: usize, n: u32) -> usize
     ensures { Put (decimal n) at out.old result out.new × (result ≤ at + 10) }
 {
     let mut digits = [0u8; 20];
-    let k = io::decimal(n as u64, &mut digits);
+    let k = io::decimal(u64::from(n), &mut digits);
     put(out, at, &digits[..k])
 }
 

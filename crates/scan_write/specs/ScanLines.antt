@@ -1,34 +1,29 @@
 -- The lines about a scan whose observations were inserted, and the text of lines.
 -- Assumes nothing: these are definitions.
-use Rattle.std.specs.Prelude.{ℕ, cond, List, [], ◌∷◌, ◌++◌, map, eqb}
+use Rattle.std.specs.Prelude.{ℕ, List, [], ◌∷◌, ◌++◌, map, Option, Some, None, Result, Ok, Err}
+use Rattle.refusal.specs.declared.Refusal.{Refusal}
 use Rattle.refusal.specs.Number.{number_of}
 use Rattle.fraction.specs.declared.Fraction.{Fraction}
 use Rattle.entries.specs.declared.Entry.{Entry}
 use Rattle.greenwald_khanna_steps.specs.declared.Stream.{Stream}
-use Rattle.greenwald_khanna_told.specs.declared.Answer.{Answer}
-use Rattle.greenwald_khanna_told.specs.declared.Answer.TheVariants as answering
 use Rattle.greenwald_khanna.specs.Answers.{quantiled}
 use Rattle.scan_text.specs.declared.Line.{Line}
 use Rattle.scan_text.specs.declared.Line.TheVariants.{Taken, Held, InsertRefused, Value, Refused}
 use Rattle.scan_text.specs.Lines.{text_of}
 use Rattle.scan_insert.specs.Inserts.{End}
 
--- the refusal number of a question's answer, 0 where it is no refusal
-abbrev pub why_answered : Answer → ℕ
-why_answered (answering.Value v) = 0
-why_answered (answering.Refused why) = number_of why
-
 -- a fraction's line: its value or its refusal number
-abbrev pub answer_line : Fraction → Answer → Line
-answer_line φ (answering.Value v) = Value φ v
-answer_line φ (answering.Refused why) = Refused φ (number_of why)
+abbrev pub answer_line : Fraction → Result ℕ Refusal → Line
+answer_line φ (Ok v) = Value φ v
+answer_line φ (Err why) = Refused φ (number_of why)
 
 abbrev pub fraction_line : Stream → List Entry → Fraction → Line
 fraction_line st list φ = answer_line φ (quantiled st list φ)
 
 -- the line of a refused insert, if one was
-abbrev pub refused_line : ℕ → List Line
-refused_line n = cond (eqb n 0) [] (InsertRefused n ∷ [])
+abbrev pub refused_line : Option Refusal → List Line
+refused_line None = []
+refused_line (Some why) = InsertRefused (number_of why) ∷ []
 
 -- the lines of a scan whose observations were inserted
 abbrev pub scan_lines : End → List Fraction → List Line

@@ -7,33 +7,22 @@ ghost use Rattle.scan_file.specs.Layout.{fractions_at};
 ghost use Rattle.scan_put.specs.Put.{Put};
 ghost use Rattle.scan_text.specs.Lines.{line_bytes};
 ghost use Rattle.scan_insert.specs.Inserts.{end_of};
-ghost use Rattle.scan_write.specs.ScanLines.{why_answered, fraction_line, scan_lines, texts};
+ghost use Rattle.scan_write.specs.ScanLines.{fraction_line, scan_lines, texts};
 
 use fraction::Fraction;
-use greenwald_khanna::{Answer, Stream};
+use greenwald_khanna::Stream;
 use scan_file::Layout;
 use scan_insert::Ran;
 use scan_text::Line;
-
-// The refusal number of a question's answer, 0 where it is no refusal.
-fn why_answered(answer: Answer) -> u32
-    ensures { result ≡ why_answered answer }
-{
-    if let Answer::Refused(why) = answer {
-        return why.number();
-    }
-    0
-}
 
 // A fraction's line: its quantile, or the number of the quantile's refusal.
 fn line_of(stream: Stream, rows: &[[u32; 3]], phi: Fraction) -> Line
     ensures { result ≡ fraction_line stream (entries_of rows.now) phi }
 {
-    let answer = greenwald_khanna::quantile(stream, rows, phi);
-    let Answer::Value(v) = answer else {
-        return Line::Refused(phi, why_answered(answer));
-    };
-    Line::Value(phi, v)
+    match greenwald_khanna::quantile(stream, rows, phi) {
+        Ok(v) => Line::Value(phi, v),
+        Err(why) => Line::Refused(phi, why.number()),
+    }
 }
 
 // The lines of the fractions, from a place of the text on.
@@ -49,11 +38,8 @@ fn write_fractions(
     ensures { Put (texts (map (fraction_line stream (entries_of rows.now)) (fractions_at bytes.now layout.fractions))) from out.old result out.new }
 {
     let mut at = from;
-    let mut i: u32 = 0;
-    while i < layout.fractions {
-        let line = line_of(stream, rows, layout.fraction(bytes, i));
-        at = scan_text::spell(line, out, at);
-        i += 1;
+    for i in 0..layout.fractions {
+        at = scan_text::spell(line_of(stream, rows, layout.fraction(bytes, i)), out, at);
     }
     at
 }
@@ -71,10 +57,9 @@ pub fn write_scan(
 {
     let stream = ran.stream;
     let after_taken = scan_text::spell(Line::Taken(stream.n), out, 0);
-    let after_held = scan_text::spell(Line::Held(stream.held), out, after_taken);
-    if ran.refused == 0 {
-        return write_fractions(stream, layout, bytes, rows, out, after_held);
+    let mut at = scan_text::spell(Line::Held(stream.held), out, after_taken);
+    if let Some(why) = ran.refused {
+        at = scan_text::spell(Line::InsertRefused(why.number()), out, at);
     }
-    let after_refused = scan_text::spell(Line::InsertRefused(ran.refused), out, after_held);
-    write_fractions(stream, layout, bytes, rows, out, after_refused)
+    write_fractions(stream, layout, bytes, rows, out, at)
 }

@@ -1,91 +1,40 @@
-// Where a value goes in a sorted list.
+// Where a value goes in a sorted list of rows or entries.
 #![tactic(auto)]
 
-ghost use Rattle.std.specs.Prelude.{◌≡◌};
-ghost use Rattle.entries.specs.Entry.{entries_of, values};
+ghost use Rattle.std.specs.Prelude.{◌≡◌, map};
+ghost use Rattle.entries.specs.Entry.{values};
 ghost use Rattle.entries.specs.Place.{place};
-ghost use Rattle.entries.specs.Ranks.{Rising, below, upto};
+ghost use Rattle.entries.specs.Ranks.{Rising, below};
 
-use fraction::wide;
+use entries::Slot;
 
 // The first place whose value is greater than x, else the end: every place is looked at.
-pub fn scan(rows: &[[u32; 3]], x: u32) -> usize
-    ensures { result ≡ place x (values (entries_of rows.now)) }
+pub fn scan<T: Slot>(list: &[T], x: u32) -> usize
+    ensures { result ≡ place x (values (map T.entry list.now)) }
 {
-    let mut i = 0;
-    while i < rows.len() {
-        if x < rows[i][0] {
+    for (i, slot) in list.iter().enumerate() {
+        if x < slot.entry().v {
             return i;
         }
-        i += 1;
     }
-    i
+    list.len()
 }
 
-// The same of a sorted list: one longer than 10 is halved, and one half searched.
-pub fn place(rows: &[[u32; 3]], x: u32) -> usize
-    requires { Rising 0 (values (entries_of rows.now)) }
-    ensures { result ≡ place x (values (entries_of rows.now)) }
+// The same of a sorted list, by halving; one of 10 or fewer is looked through, as the Rust does.
+pub fn place<T: Slot>(list: &[T], x: u32) -> usize
+    requires { Rising 0 (values (map T.entry list.now)) }
+    ensures { result ≡ place x (values (map T.entry list.now)) }
 {
-    if rows.len() <= 10 {
-        return scan(rows, x);
+    if list.len() <= 10 {
+        return scan(list, x);
     }
-    let middle = rows.len() / 2;
-    if x < rows[middle][0] {
-        place(&rows[..middle], x)
-    } else {
-        middle + place(&rows[middle..], x)
-    }
+    list.partition_point(|slot| slot.entry().v <= x)
 }
 
-// How many values of a sorted list are smaller than x: the first place whose value is not smaller, by halving.
-pub fn smaller(rows: &[[u32; 3]], x: u32) -> usize
-    requires { Rising 0 (values (entries_of rows.now)) }
-    ensures { result ≡ below (values (entries_of rows.now)) x }
+// How many values of a sorted list are smaller than x: the first place whose value is not smaller.
+pub fn smaller<T: Slot>(list: &[T], x: u32) -> usize
+    requires { Rising 0 (values (map T.entry list.now)) }
+    ensures { result ≡ below (values (map T.entry list.now)) x }
 {
-    let mut low = 0;
-    let mut high = rows.len();
-    while low < high {
-        let middle = low + (high - low) / 2;
-        if rows[middle][0] < x {
-            low = middle + 1;
-        } else {
-            high = middle;
-        }
-    }
-    low
-}
-
-// The same of a sorted list of numbers. x has 64 bits, so that it can be one more than the largest of them.
-fn smaller_than(s: &[u32], x: u64) -> usize
-    requires { Rising 0 s.now }
-    ensures { result ≡ below s.now x }
-{
-    let mut low = 0;
-    let mut high = s.len();
-    while low < high {
-        let middle = low + (high - low) / 2;
-        if wide(s[middle]) < x {
-            low = middle + 1;
-        } else {
-            high = middle;
-        }
-    }
-    low
-}
-
-// How many numbers of a sorted list are smaller than x.
-pub fn smaller_numbers(s: &[u32], x: u32) -> usize
-    requires { Rising 0 s.now }
-    ensures { result ≡ below s.now x }
-{
-    smaller_than(s, wide(x))
-}
-
-// How many numbers of a sorted list are at most x: those smaller than one more.
-pub fn up_to(s: &[u32], x: u32) -> usize
-    requires { Rising 0 s.now }
-    ensures { result ≡ upto s.now x }
-{
-    smaller_than(s, wide(x) + 1)
+    list.partition_point(|slot| slot.entry().v < x)
 }

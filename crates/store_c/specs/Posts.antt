@@ -1,10 +1,9 @@
 -- What holds after each call on a store that writes: the core's post-condition of the core's answer, and the answer in numbers.
 -- Assumes nothing: these are definitions.
-use Rattle.std.specs.Prelude.{◌≡◌, ℕ, List}
+use Rattle.std.specs.Prelude.{◌≡◌, ℕ, List, Result}
+use Rattle.refusal.specs.declared.Refusal.{Refusal}
 use Rattle.entries.specs.declared.Entry.{Entry}
-use Rattle.ckms_store_steps.specs.declared.Opened.{Opened}
-use Rattle.ckms_store.specs.declared.Inserted.{Inserted}
-use Rattle.ckms_store.specs.declared.Compressed.{Compressed}
+use Rattle.ckms_store_steps.specs.declared.Store.{Store}
 use Rattle.ckms_store_steps.specs.Opening.{OpenPost}
 use Rattle.ckms_store.specs.Posts.{InsertPost, CompressPost}
 use Rattle.words.specs.declared.Ratio.{Ratio}
@@ -16,20 +15,20 @@ use Rattle.store_words.specs.Stores.{store_of, flat_opened, flat_inserted, flat_
 -- `stelo_store_open`
 pub record StoreOpenPost (error : Ratio) (block : ℕ) (list : List Entry) (lens : List ℕ)
     (answer : StoreAnswer) (list' : List Entry) (lens' : List ℕ) : Type 0 where
-  pub core : Opened
+  pub core : Result Store Refusal
   pub post : OpenPost (fraction_of error) block list lens core list' lens'
   pub flat : answer ≡ flat_opened core
 
 -- `stelo_store_insert`
 pub record StoreInsertPost (given : StoreWords) (list : List Entry) (lens : List ℕ) (x : ℕ)
     (answer : StoreAnswer) (list' : List Entry) (lens' : List ℕ) : Type 0 where
-  pub core : Inserted
+  pub core : Result Store Refusal
   pub post : InsertPost (store_of given) list lens x core list' lens'
   pub flat : answer ≡ flat_inserted given core
 
 -- `stelo_store_compress`
 pub record StoreCompressPost (given : StoreWords) (list : List Entry) (lens : List ℕ)
     (answer : StoreAnswer) (list' : List Entry) (lens' : List ℕ) : Type 0 where
-  pub core : Compressed
+  pub core : Result Store Refusal
   pub post : CompressPost (store_of given) list lens core list' lens'
   pub flat : answer ≡ flat_compressed given core

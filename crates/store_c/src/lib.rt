@@ -11,9 +11,7 @@ ghost use Rattle.store_c.specs.Posts.{StoreOpenPost, StoreInsertPost, StoreCompr
 ghost use Rattle.store_c.specs.Promises.{Promises};
 
 use ckms_store::Store;
-use store_words::{
-    RankedAnswer, StoreAnswer, StoreWords, compressed, emptiness, inserted, length, opened, ranked,
-};
+use store_words::{RankedAnswer, StoreAnswer, StoreWords};
 use words::{Number, Ratio};
 
 // A fresh store. Refused: SLOTS, EPSILON, BLOCK.
@@ -26,7 +24,10 @@ pub extern "C" fn stelo_store_open(
 ) -> StoreAnswer
     ensures { StoreOpenPost error block (entries_of list.old) blocks.old result (entries_of list.new) blocks.new }
 {
-    opened(Store::open(error.fraction(), block, list, blocks))
+    StoreAnswer::new(
+        Store::open(error.into(), block, list, blocks),
+        StoreWords::default(),
+    )
 }
 
 // One observation more. Refused: SLOTS, DAMAGED, COUNT, FULL.
@@ -39,7 +40,10 @@ pub extern "C" fn stelo_store_insert(
 ) -> StoreAnswer
     ensures { StoreInsertPost store (entries_of list.old) blocks.old v result (entries_of list.new) blocks.new }
 {
-    inserted(ckms_store::insert(store.store(), list, blocks, v), store)
+    StoreAnswer::new(
+        ckms_store::insert(Store::from(store), list, blocks, v),
+        store,
+    )
 }
 
 // Entries merged and blocks joined. Refused: SLOTS, DAMAGED.
@@ -51,7 +55,10 @@ pub extern "C" fn stelo_store_compress(
 ) -> StoreAnswer
     ensures { StoreCompressPost store (entries_of list.old) blocks.old result (entries_of list.new) blocks.new }
 {
-    compressed(ckms_store::compress(store.store(), list, blocks), store)
+    StoreAnswer::new(
+        ckms_store::compress(Store::from(store), list, blocks),
+        store,
+    )
 }
 
 // How many entries are held. Refused: SLOTS, DAMAGED.
@@ -59,7 +66,7 @@ pub extern "C" fn stelo_store_compress(
 pub extern "C" fn stelo_store_len(store: StoreWords, list: &[[u32; 3]], blocks: &[u32]) -> Number
     ensures { result ≡ flat_len (len_of (store_of store) (entries_of list.now) blocks.now) }
 {
-    length(ckms_store::len(store.store(), list, blocks))
+    Number::from(ckms_store::len(Store::from(store), list, blocks))
 }
 
 // 1 if none is held, else 0. Refused: SLOTS, DAMAGED.
@@ -71,7 +78,7 @@ pub extern "C" fn stelo_store_is_empty(
 ) -> Number
     ensures { result ≡ flat_empty (empty_of (store_of store) (entries_of list.now) blocks.now) }
 {
-    emptiness(ckms_store::is_empty(store.store(), list, blocks))
+    Number::from(ckms_store::is_empty(Store::from(store), list, blocks).map(u32::from))
 }
 
 // The rank and the value at q. Refused: SLOTS, DAMAGED, PHI, EMPTY.
@@ -84,7 +91,7 @@ pub extern "C" fn stelo_store_query(
 ) -> RankedAnswer
     ensures { result ≡ flat_ranked (queried (store_of store) (entries_of list.now) blocks.now (fraction_of q)) }
 {
-    ranked(ckms_store::query(store.store(), list, blocks, q.fraction()))
+    RankedAnswer::from(ckms_store::query(Store::from(store), list, blocks, q.into()))
 }
 
 // The theorems about the definitions: the crate is not proved unless each of them is.

@@ -1,17 +1,19 @@
 // The store's state and answers. All six words fit a state, so the core's tests are all the tests.
+// C reads these structs, so a refusal is a number in them.
 #![tactic(auto)]
 
 ghost use Rattle.std.specs.Prelude.{◌≡◌};
 ghost use Rattle.store_words.specs.Promises.{Promises};
-ghost use Rattle.store_words.specs.Stores.{store_of, words_of, flat_opened, flat_inserted, flat_compressed, flat_len, flat_empty, flat_ranked};
+ghost use Rattle.store_words.specs.Stores.{store_of, words_of, flat_inserted, flat_ranked};
 
-use ckms_store::{Answer, Compressed, Inserted, IsEmpty, Length, Opened, Store};
+use ckms_store::Store;
+use ckms_theory::Ranked;
 use fraction::Fraction;
-use words::{Number, refused};
+use refusal::Refusal;
 
 // A store's state.
 #[repr(C)]
-#[derive(Clone, Copy)]
+#[derive(Clone, Copy, Default)]
 pub struct StoreWords {
     pub num: u32,
     pub den: u32,
@@ -38,140 +40,61 @@ pub struct RankedAnswer {
     pub value: u32,
 }
 
-impl StoreWords {
-    // The state of the words.
-    pub fn store(self) -> Store
-        ensures { result ≡ store_of self }
-    {
+// The state of the words.
+impl From<StoreWords> for Store {
+    ghost from_gives = { λ words store. store ≡ store_of words };
+
+    fn from(words: StoreWords) -> Store {
         Store {
             error: Fraction {
-                num: self.num,
-                den: self.den,
+                num: words.num,
+                den: words.den,
             },
-            n: self.n,
-            held: self.held,
-            block: self.block,
-            blocks: self.blocks,
+            n: words.n,
+            held: words.held,
+            block: words.block,
+            blocks: words.blocks,
         }
     }
 }
 
 // The words of a state.
-fn words(store: Store) -> StoreWords
-    ensures { result ≡ words_of store }
-{
-    let error = store.error;
-    StoreWords {
-        num: error.num,
-        den: error.den,
-        n: store.n,
-        held: store.held,
-        block: store.block,
-        blocks: store.blocks,
-    }
-}
+impl From<Store> for StoreWords {
+    ghost from_gives = { λ store words. words ≡ words_of store };
 
-// What opening answers.
-pub fn opened(answer: Opened) -> StoreAnswer
-    ensures { result ≡ flat_opened answer }
-{
-    match answer {
-        Opened::Open(store) => StoreAnswer {
-            refusal: 0,
-            store: words(store),
-        },
-        Opened::Refused(why) => StoreAnswer {
-            refusal: why.number(),
-            store: StoreWords {
-                num: 0,
-                den: 0,
-                n: 0,
-                held: 0,
-                block: 0,
-                blocks: 0,
-            },
-        },
-    }
-}
-
-// What an insert answers: the state as it was given where it is refused.
-pub fn inserted(answer: Inserted, given: StoreWords) -> StoreAnswer
-    ensures { result ≡ flat_inserted given answer }
-{
-    match answer {
-        Inserted::Taken(store) => StoreAnswer {
-            refusal: 0,
-            store: words(store),
-        },
-        Inserted::Refused(why) => StoreAnswer {
-            refusal: why.number(),
-            store: given,
-        },
-    }
-}
-
-// What a compression answers, likewise.
-pub fn compressed(answer: Compressed, given: StoreWords) -> StoreAnswer
-    ensures { result ≡ flat_compressed given answer }
-{
-    match answer {
-        Compressed::Done(store) => StoreAnswer {
-            refusal: 0,
-            store: words(store),
-        },
-        Compressed::Refused(why) => StoreAnswer {
-            refusal: why.number(),
-            store: given,
-        },
-    }
-}
-
-// What `len` answers.
-pub fn length(answer: Length) -> Number
-    ensures { result ≡ flat_len answer }
-{
-    match answer {
-        Length::Held(value) => Number { refusal: 0, value },
-        Length::Refused(why) => refused(why),
-    }
-}
-
-// What `is_empty` answers: 1 or 0.
-pub fn emptiness(answer: IsEmpty) -> Number
-    ensures { result ≡ flat_empty answer }
-{
-    match answer {
-        IsEmpty::Is(empty) => {
-            if empty {
-                return Number {
-                    refusal: 0,
-                    value: 1,
-                };
-            }
-            Number {
-                refusal: 0,
-                value: 0,
-            }
+    fn from(store: Store) -> StoreWords {
+        StoreWords {
+            num: store.error.num,
+            den: store.error.den,
+            n: store.n,
+            held: store.held,
+            block: store.block,
+            blocks: store.blocks,
         }
-        IsEmpty::Refused(why) => refused(why),
+    }
+}
+
+impl StoreAnswer {
+    // What a call that gives a store answers: the state as it was given where the call is refused.
+    pub fn new(answer: Result<Store, Refusal>, given: StoreWords) -> StoreAnswer
+        ensures { result ≡ flat_inserted given answer }
+    {
+        let (refusal, store) = words::answered(answer.map(StoreWords::from), given);
+        StoreAnswer { refusal, store }
     }
 }
 
 // What a query answers, a CKMS's too.
-pub fn ranked(answer: Answer) -> RankedAnswer
-    ensures { result ≡ flat_ranked answer }
-{
-    match answer {
-        Answer::Given(found) => RankedAnswer {
-            refusal: 0,
+impl From<Result<Ranked, Refusal>> for RankedAnswer {
+    ghost from_gives = { λ answer told. told ≡ flat_ranked answer };
+
+    fn from(answer: Result<Ranked, Refusal>) -> RankedAnswer {
+        let (refusal, found) = words::answered(answer, Ranked { rank: 0, value: 0 });
+        RankedAnswer {
+            refusal,
             rank: found.rank,
             value: found.value,
-        },
-        Answer::Refused(why) => RankedAnswer {
-            refusal: why.number(),
-            rank: 0,
-            value: 0,
-        },
+        }
     }
 }
 

@@ -10,7 +10,7 @@ ghost use Rattle.stream_c.specs.Posts.{StreamOpenPost, StreamInsertPost, StreamQ
 ghost use Rattle.stream_c.specs.Promises.{Promises};
 
 use greenwald_khanna::Stream;
-use stream_words::{StreamAnswer, StreamWords, inserted, opened, told};
+use stream_words::{StreamAnswer, StreamWords};
 use words::{Number, Ratio};
 
 // A fresh stream. Refused: SLOTS, EPSILON.
@@ -18,7 +18,7 @@ use words::{Number, Ratio};
 pub extern "C" fn stelo_stream_open(epsilon: Ratio, list: &mut [[u32; 3]]) -> StreamAnswer
     ensures { StreamOpenPost epsilon (entries_of list.old) result (entries_of list.new) }
 {
-    opened(Stream::open(epsilon.fraction(), list))
+    StreamAnswer::new(Stream::open(epsilon.into(), list), StreamWords::default())
 }
 
 // One observation more. Refused: SLOTS, DAMAGED, COUNT, FULL.
@@ -30,7 +30,7 @@ pub extern "C" fn stelo_stream_insert(
 ) -> StreamAnswer
     ensures { StreamInsertPost stream (entries_of list.old) v result (entries_of list.new) }
 {
-    inserted(greenwald_khanna::insert(stream.stream(), list, v), stream)
+    StreamAnswer::new(greenwald_khanna::insert(stream.into(), list, v), stream)
 }
 
 // The φ-quantile. Refused: SLOTS, DAMAGED, PHI, EMPTY.
@@ -42,7 +42,7 @@ pub extern "C" fn stelo_stream_quantile(
 ) -> Number
     ensures { StreamQuantilePost stream (entries_of list.now) phi result }
 {
-    told(greenwald_khanna::quantile(stream.stream(), list, phi.fraction()))
+    Number::from(greenwald_khanna::quantile(stream.into(), list, phi.into()))
 }
 
 // p = ⌊2εn⌋. Refused: SLOTS, DAMAGED.
@@ -50,7 +50,7 @@ pub extern "C" fn stelo_stream_quantile(
 pub extern "C" fn stelo_stream_p(stream: StreamWords, list: &[[u32; 3]]) -> Number
     ensures { result ≡ flat_answer (told_p (stream_of stream) (entries_of list.now)) }
 {
-    told(greenwald_khanna::p(stream.stream(), list))
+    Number::from(greenwald_khanna::p(stream.into(), list))
 }
 
 // How many observations were accepted. Refused: SLOTS, DAMAGED.
@@ -58,7 +58,7 @@ pub extern "C" fn stelo_stream_p(stream: StreamWords, list: &[[u32; 3]]) -> Numb
 pub extern "C" fn stelo_stream_n(stream: StreamWords, list: &[[u32; 3]]) -> Number
     ensures { result ≡ flat_answer (told_n (stream_of stream) (entries_of list.now)) }
 {
-    told(greenwald_khanna::n(stream.stream(), list))
+    Number::from(greenwald_khanna::n(stream.into(), list))
 }
 
 // How many entries are held. Refused: SLOTS, DAMAGED.
@@ -66,7 +66,7 @@ pub extern "C" fn stelo_stream_n(stream: StreamWords, list: &[[u32; 3]]) -> Numb
 pub extern "C" fn stelo_stream_s(stream: StreamWords, list: &[[u32; 3]]) -> Number
     ensures { result ≡ flat_answer (told_s (stream_of stream) (entries_of list.now)) }
 {
-    told(greenwald_khanna::s(stream.stream(), list))
+    Number::from(greenwald_khanna::s(stream.into(), list))
 }
 
 // The theorems about the definitions: the crate is not proved unless each of them is.

@@ -1,17 +1,19 @@
 // The stream's state and answers. All four words fit a state, so the core's tests are all the tests.
+// C reads these structs, so a refusal is a number in them.
 #![tactic(auto)]
 
 ghost use Rattle.std.specs.Prelude.{◌≡◌};
 ghost use Rattle.stream_words.specs.Promises.{Promises};
-ghost use Rattle.stream_words.specs.Streams.{stream_of, words_of, flat_opened, flat_inserted, flat_answer};
+ghost use Rattle.stream_words.specs.Streams.{stream_of, words_of, flat_inserted};
 
 use fraction::Fraction;
-use greenwald_khanna::{Answer, Inserted, Opened, Stream};
-use words::{Number, refused};
+use greenwald_khanna::Stream;
+use refusal::Refusal;
+use words::answered;
 
 // A stream's state.
 #[repr(C)]
-#[derive(Clone, Copy)]
+#[derive(Clone, Copy, Default)]
 pub struct StreamWords {
     pub num: u32,
     pub den: u32,
@@ -27,79 +29,41 @@ pub struct StreamAnswer {
     pub stream: StreamWords,
 }
 
-impl StreamWords {
-    // The state of the words.
-    pub fn stream(self) -> Stream
-        ensures { result ≡ stream_of self }
-    {
+impl From<StreamWords> for Stream {
+    ghost from_gives = { λ words stream. stream ≡ stream_of words };
+
+    fn from(words: StreamWords) -> Stream {
         Stream {
             epsilon: Fraction {
-                num: self.num,
-                den: self.den,
+                num: words.num,
+                den: words.den,
             },
-            n: self.n,
-            held: self.held,
+            n: words.n,
+            held: words.held,
         }
     }
 }
 
-// The words of a state.
-fn words(stream: Stream) -> StreamWords
-    ensures { result ≡ words_of stream }
-{
-    let epsilon = stream.epsilon;
-    StreamWords {
-        num: epsilon.num,
-        den: epsilon.den,
-        n: stream.n,
-        held: stream.held,
+impl From<Stream> for StreamWords {
+    ghost from_gives = { λ stream words. words ≡ words_of stream };
+
+    fn from(stream: Stream) -> StreamWords {
+        StreamWords {
+            num: stream.epsilon.num,
+            den: stream.epsilon.den,
+            n: stream.n,
+            held: stream.held,
+        }
     }
 }
 
-// What opening answers.
-pub fn opened(answer: Opened) -> StreamAnswer
-    ensures { result ≡ flat_opened answer }
-{
-    match answer {
-        Opened::Open(stream) => StreamAnswer {
-            refusal: 0,
-            stream: words(stream),
-        },
-        Opened::Refused(why) => StreamAnswer {
-            refusal: why.number(),
-            stream: StreamWords {
-                num: 0,
-                den: 0,
-                n: 0,
-                held: 0,
-            },
-        },
-    }
-}
-
-// What an insert answers: the state as it was given where it is refused.
-pub fn inserted(answer: Inserted, given: StreamWords) -> StreamAnswer
-    ensures { result ≡ flat_inserted given answer }
-{
-    match answer {
-        Inserted::Taken(stream) => StreamAnswer {
-            refusal: 0,
-            stream: words(stream),
-        },
-        Inserted::Refused(why) => StreamAnswer {
-            refusal: why.number(),
-            stream: given,
-        },
-    }
-}
-
-// What a question answers.
-pub fn told(answer: Answer) -> Number
-    ensures { result ≡ flat_answer answer }
-{
-    match answer {
-        Answer::Value(value) => Number { refusal: 0, value },
-        Answer::Refused(why) => refused(why),
+impl StreamAnswer {
+    // What a call that gives a stream answers: the state as it was given where the call is refused.
+    pub fn new(answer: Result<Stream, Refusal>, given: StreamWords) -> StreamAnswer
+        ensures { result ≡ flat_inserted given answer }
+    {
+        let (refusal, stream) = answered(answer.map(StreamWords::from), given);
+        StreamAnswer { refusal, stream }
     }
 }
 

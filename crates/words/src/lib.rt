@@ -1,9 +1,10 @@
 // What the words of every module share: a fraction, an answer that is one number or a refusal, and a flag beside what it tells of.
 // The states and answers are in stream_words, histogram_words, store_words, ckms_words and ckms_answer_words; the calls are in stream_c, histogram_c, store_c and ckms_c.
+// C reads these structs, so a refusal is a number in them, beside what is answered, and what there may not be stands behind a flag.
 #![tactic(auto)]
 
 ghost use Rattle.std.specs.Prelude.{◌≡◌};
-ghost use Rattle.words.specs.Words.{fraction_of, refused, flag_fits};
+ghost use Rattle.words.specs.Words.{fraction_of, answered, number_told, flag_fits};
 
 use fraction::Fraction;
 use refusal::Refusal;
@@ -24,25 +25,39 @@ pub struct Number {
     pub value: u32,
 }
 
-impl Ratio {
-    // The fraction of the words.
-    pub fn fraction(self) -> Fraction
-        ensures { result ≡ fraction_of self }
-    {
+impl From<Ratio> for Fraction {
+    ghost from_gives = { λ ratio fraction. fraction ≡ fraction_of ratio };
+
+    fn from(ratio: Ratio) -> Fraction {
         Fraction {
-            num: self.num,
-            den: self.den,
+            num: ratio.num,
+            den: ratio.den,
         }
     }
 }
 
-// What a refused call tells.
-pub fn refused(why: Refusal) -> Number
-    ensures { result ≡ refused why }
+// What a call that gives a state answers, in words: the refusal's number or 0, and the state, which is `given` where the call is refused.
+pub fn answered<W: Copy>(answer: Result<W, Refusal>, given: W) -> (u32, W)
+    ensures { result ≡ answered given answer }
 {
-    Number {
-        refusal: why.number(),
-        value: 0,
+    match answer {
+        Ok(state) => (0, state),
+        Err(why) => (why.number(), given),
+    }
+}
+
+// What a call that tells a number answers, in words.
+impl From<Result<u32, Refusal>> for Number {
+    ghost from_gives = { λ answer n. n ≡ number_told answer };
+
+    fn from(answer: Result<u32, Refusal>) -> Number {
+        match answer {
+            Ok(value) => Number { refusal: 0, value },
+            Err(why) => Number {
+                refusal: why.number(),
+                value: 0,
+            },
+        }
     }
 }
 
@@ -50,11 +65,5 @@ pub fn refused(why: Refusal) -> Number
 pub fn flag_fits(flag: u64, nothing: bool) -> bool
     ensures { result ≡ flag_fits flag nothing }
 {
-    if flag == 1 {
-        return true;
-    }
-    if flag == 0 {
-        return nothing;
-    }
-    false
+    flag == 1 || (flag == 0 && nothing)
 }

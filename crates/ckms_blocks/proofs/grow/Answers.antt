@@ -4,14 +4,14 @@ use native.Mathlib.Omega.{arith}
 use Rattle.ckms_blocks.proofs.Grows.{grow_first, grow_one, grow_split}
 use Rattle.ckms_blocks.proofs.grow.Goals as goal
 
-pub returns-then-blocks-lt1 : goal.returns-then-blocks-lt1
-returns-then-blocks-lt1 c =
+pub returns-then-blocks-eq0 : goal.returns-then-blocks-eq0
+returns-then-blocks-eq0 c =
     grow_first c.args.size c.args.blocks c.args.block c.args.lens.now (omega arith) (omega arith)
 
-pub returns-then-len-size : goal.returns-then-len-size
-returns-then-len-size c =
+pub returns-then-lens-block : goal.returns-then-lens-block
+returns-then-lens-block c =
     grow_one c.args.size c.args.blocks c.args.block c.args.lens.now (omega arith) (omega arith) (omega arith)
 
 pub returns : goal.returns
 returns c =
-    grow_split c.args.size c.args.blocks c.args.block c.args.lens.now (omega arith) (omega arith) (omega arith) c.insert_number.new.s c.insert_number.ensures
+    grow_split c.args.size c.args.blocks c.args.block c.args.lens.now (omega arith) (omega arith) (omega arith) c.insert_at.new.list c.insert_at.ensures

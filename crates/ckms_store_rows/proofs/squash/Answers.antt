@@ -1,14 +1,15 @@
--- `ckms_store_rows::squash` meets its contract: what is left, zeros behind it, and the rest as it was.
+-- `ckms_store_rows::squash` meets its contract: what is left, and zeros behind it.
 -- Assumes nothing.
-use mathlib.Core.Path.{◌≡◌, ◌∙◌}
-use native.Mathlib.Omega.{arith}
-use lib.ListN.{length, take}
-use lib.Seq.{length-take-le}
+use Rattle.std.proofs.Common.{rules, ◌≡◌, ◌++◌, ◌-◌, length, take, replicate}
+use borrow.Rule.Slice.PartMut.{put_mid}
+use Rattle.std.proofs.lemmas.Slice.{overwrites}
+use Rattle.entries.specs.Entry.{row_of, zero_entry}
 use Rattle.ckms_store_rows.proofs.Layouts.{squash_post}
-use borrow.Author.Rules.{rules}
 use Rattle.ckms_store_rows.proofs.squash.Goals as goal
 
 pub returns : goal.returns
 returns c =
-    let e : length c.squash-left.new.rows ≡ length (take c.args.held c.args.rows.now) = search rules in
-    squash_post c.args.error c.args.held c.args.blocks c.args.rows.now c.args.lens.now c.squash-left.result c.squash-left.new.rows c.clear.new.rows c.squash-left.new.lens (e ∙ length-take-le c.args.held c.args.rows.now (omega arith)) c.squash-left.ensures c.clear.ensures
+    let w = c.squash-left.result in
+    let left = c.squash-left.new.rows in
+    let zeroed : put_mid w (length left - w) left c.fill.new.self ≡ take w left ++ replicate (length c.args.rows.now - w) (row_of zero_entry) = search (rules, overwrites) in
+    squash_post _ c.args.rows.now c.args.lens.now w left _ c.squash-left.new.lens c.squash-left.ensures zeroed

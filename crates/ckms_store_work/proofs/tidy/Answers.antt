@@ -1,43 +1,43 @@
 -- `ckms_store_work::tidy` meets its contract: fewer than 3 entries stay; else the two halves of a compression.
 -- Assumes nothing.
-use mathlib.Core.Path.{◌≡◌, refl}
-use Prim.Native.Nat.{◌≤◌}
+use mathlib.Core.Path.{refl}
+use mathlib.Core.List.{map-append}
 use native.Mathlib.Omega.{arith}
-use lib.ListN.{length, length-map}
-use lib.Seq.{length-take-le}
+use lib.ListN.{drop}
 use Rattle.entries.specs.Entry.{entry_of, entries_of}
-use Rattle.ckms_store_work.proofs.Works.{ruled, whole, tidy_left, tidy_few}
-use borrow.Author.Rules.{rules}
+use Rattle.entries.proofs.Maps.{map_take, map_drop}
+use Rattle.ckms_store_work.proofs.Works.{ruled, blocks_long, rows_used, whole, tidy_left, tidy_few}
 use Rattle.ckms_store_work.proofs.tidy.Goals as goal
 
-pub returns-then-held-lt3 : goal.returns-then-held-lt3
-returns-then-held-lt3 c =
-    let list = entries_of c.args.rows.now in
-    let lens = c.args.lens.now in
-    tidy_few c.args.store list lens c.requires (omega (arith, c.place-held.ensures.0))
+pub returns-then-held-lt-COMPRESSED : goal.returns-then-held-lt-COMPRESSED
+returns-then-held-lt-COMPRESSED c = tidy_few _ _ _ c.requires c.if-held-lt-COMPRESSED.true
+
+pub invariant_of-error : goal.invariant_of-error
+invariant_of-error c = record { allowed = (ruled _ _ _ c.requires).error }
+
+pub slice_bounds-used-end : goal.slice_bounds-used-end
+slice_bounds-used-end c = (ruled _ _ _ c.requires).places
+
+pub slice_bounds-used-end-2 : goal.slice_bounds-used-end-2
+slice_bounds-used-end-2 c = omega (arith, blocks_long _ _ _ c.requires)
+
+pub slice_bounds-squash-end : goal.slice_bounds-squash-end
+slice_bounds-squash-end c = (rows_used _ _ _ c.requires).0
+
+pub slice_bounds-squash-end-2 : goal.slice_bounds-squash-end-2
+slice_bounds-squash-end-2 c = omega (arith, (rows_used _ _ _ c.requires).1)
 
 pub squash-left-requires : goal.squash-left-requires
-squash-left-requires c =
-    let list = entries_of c.args.rows.now in
-    let lens = c.args.lens.now in
-    let r = ruled c.args.store list lens c.requires in
-    let h : 3 ≤ c.args.store.held = omega (arith, c.place-held.ensures.0) in
-    rw (c.place-held.ensures.0, c.place-blocks.ensures.0) (omega (arith, r.fits, length-map c.args.rows.now entry_of), r.places, whole c.args.store list lens c.requires h)
+squash-left-requires c = rw (rows_used _ _ _ c.requires).1 (whole _ _ _ c.requires c.if-held-lt-COMPRESSED.false)
 
 pub join-joined-requires : goal.join-joined-requires
-join-joined-requires c =
-    let list = entries_of c.args.rows.now in
-    let lens = c.args.lens.now in
-    let r = ruled c.args.store list lens c.requires in
-    let h : 3 ≤ c.args.store.held = omega (arith, c.place-held.ensures.0) in
-    let e : length c.squash-left.new.lens ≡ length lens = search rules in (
-      omega (arith, c.place-blocks.ensures.0, (whole c.args.store list lens c.requires h).block, length-take-le c.args.store.blocks lens r.places),
-      omega (arith, c.place-blocks.ensures.0, r.places),
-    )
+join-joined-requires c = omega (arith, c.squash-left.auto.lens, (whole _ _ _ c.requires c.if-held-lt-COMPRESSED.false).block)
 
 pub returns : goal.returns
 returns c =
-    let list = entries_of c.args.rows.now in
-    let lens = c.args.lens.now in
-    tidy_left c.args.store list lens c.requires (omega (arith, c.place-held.ensures.0)) c.squash-left.result (entries_of c.squash-left.new.rows) c.squash-left.new.lens
-    (rw (c.place-held.ensures.0, c.place-blocks.ensures.0) at c.squash-left.ensures) _ c.join-joined.new.lens (rw c.place-blocks.ensures.0 at c.join-joined.ensures) refl refl refl refl
+    let held = c.args.store.held in
+    let rows = c.args.rows.now in
+    let part = c.squash-left.new.rows in
+    rw (map-append entry_of part (drop held rows), map_drop entry_of held rows)
+    (tidy_left _ _ _ c.requires c.if-held-lt-COMPRESSED.false _ (entries_of part) c.squash-left.new.lens c.join-joined.new.lens
+    (rw (map_take entry_of held rows) at c.squash-left.ensures) c.join-joined.ensures refl refl refl)

@@ -1,16 +1,10 @@
--- `entries::sum_g` meets its contract: the g of the first i rows are added up.
+-- `entries::sum_g` meets its contract: what the iterator adds up are the g of the entries.
 -- Assumes nothing.
-use native.Mathlib.Omega.{arith}
-use lib.ListN.{length-map}
-use Rattle.entries.specs.Entry.{entry_of, entries_of}
-use Rattle.entries.proofs.Maps.{sum_more, g_at}
+use Rattle.std.proofs.Common.{rules, ◌≡◌, ◌∙◌, sum_by}
+use Rattle.entries.proofs.Totals.{sum_by_g}
 use Rattle.entries.proofs.sum_g.Goals as goal
 
-pub loop-i-preserved : goal.loop-i-preserved
-loop-i-preserved c =
-    let a = c.args in
-    let rows = a.rows.now in (
-      omega arith,
-      omega (arith, sum_more (entries_of rows) c.loop-i.i (omega (arith, length-map rows entry_of)), g_at rows c.loop-i.i),
-      omega arith,
-    )
+pub returns : goal.returns
+returns g c =
+    let summed : c.sum.result ≡ sum_by (λ x. (g.T.Slot.entry x).g) c.args.places.now = search rules in
+    summed ∙ sum_by_g g.T.Slot.entry c.args.places.now

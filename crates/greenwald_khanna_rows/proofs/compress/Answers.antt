@@ -1,13 +1,16 @@
 -- `greenwald_khanna_rows::compress` meets its contract: the backward pass, the move down and the zeroing, one after the other.
 -- Assumes nothing.
-use native.Mathlib.Omega.{arith}
+use Rattle.std.proofs.Common.{map, arith}
+use Rattle.std.proofs.lemmas.List.{length-map}
 use Rattle.greenwald_khanna_rows.proofs.Gaps.{short, all}
 use Rattle.greenwald_khanna_rows.proofs.compress.Goals as goal
 
 pub returns-then-held-lt2 : goal.returns-then-held-lt2
-returns-then-held-lt2 c = short c.args.p c.args.held c.args.rows.now (omega arith) (omega arith)
+returns-then-held-lt2 g c =
+    let n = length-map c.args.list.now g.T.Slot.entry in
+    rw (← n) (short c.args.p (map g.T.Slot.entry c.args.list.now) (omega (arith, n)))
 
 pub returns : goal.returns
-returns c =
-    all c.args.p c.args.held c.merge_back-w.result c.args.rows.now c.merge_back-w.new.rows c.close_gap.new.rows c.clear.new.rows (omega arith) (omega arith)
-    c.merge_back-w.ensures c.close_gap.ensures c.clear.ensures
+returns g c =
+    all g.T.Slot.entry c.args.p c.merge_back-w.result _ _ _ _ _ (omega arith)
+    c.merge_back-w.ensures c.copy_within.ensures.after c.clear.ensures c.holding.ensures

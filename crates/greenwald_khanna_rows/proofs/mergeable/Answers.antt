@@ -1,14 +1,14 @@
 -- `greenwald_khanna_rows::mergeable` meets its contract: the sum decides, and below p the bands do.
 -- Assumes nothing.
-use native.Mathlib.Omega.{arith}
-use Rattle.entries.specs.Entry.{entry_of}
-use Rattle.greenwald_khanna_rows.proofs.Turns.{bands_decide, large_stays}
+use Rattle.std.proofs.Common.{arith}
+use Rattle.std.proofs.lemmas.Bool.Decides.{nat_tests}
+use Rattle.greenwald_khanna_theory.specs.Summary.{mergeable}
 use Rattle.greenwald_khanna_rows.proofs.mergeable.Goals as goal
 
-pub returns-then-wide : goal.returns-then-wide
-returns-then-wide c =
-    rw (c.band.ensures, c.band-then-wide.ensures) (bands_decide c.args.p (entry_of c.args.e) (entry_of c.args.next) (omega arith))
+pub returns-then-from : goal.returns-then-from
+unfolding mergeable
+returns-then-from c = grind (arith, nat_tests)
 
-pub returns : goal.returns
-returns c =
-    large_stays c.args.p (entry_of c.args.e) (entry_of c.args.next) (omega arith)
+pub returns-else-from : goal.returns-else-from
+unfolding mergeable
+returns-else-from c = grind (arith, nat_tests)

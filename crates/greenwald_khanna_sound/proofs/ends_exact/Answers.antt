@@ -1,21 +1,17 @@
--- `greenwald_khanna_sound::ends_exact` meets its contract, test by test.
+-- `greenwald_khanna_sound::ends_exact` meets its contract: each end says what its rule says.
 -- Assumes nothing.
-use native.Mathlib.Omega.{arith}
-use Rattle.greenwald_khanna_sound.proofs.Soundness.{ends_none, first_g, first_delta, last_delta}
+use Rattle.std.proofs.Common.{rules}
+use Rattle.greenwald_khanna_sound.proofs.Soundness.{FirstSays, LastSays, first_says, last_says}
 use Rattle.greenwald_khanna_sound.proofs.ends_exact.Goals as goal
 
-pub returns-then-rows-lt1 : goal.returns-then-rows-lt1
-returns-then-rows-lt1 c = ends_none c.args.rows.now (omega arith)
+pub returns-then-is_none_or : goal.returns-then-is_none_or
+returns-then-is_none_or g c =
+    let a : FirstSays g.T.Slot.entry c.args.list.now c.is_none_or.result = search rules in
+    let b : LastSays g.T.Slot.entry c.args.list.now c.is_none_or-then-is_none_or.result = search rules in
+    let first = first_says g.T.Slot.entry _ _ a in
+    rw (← first, c.if-is_none_or.true) (last_says g.T.Slot.entry _ _ b)
 
-pub returns-then-rows-ne1 : goal.returns-then-rows-ne1
-returns-then-rows-ne1 c = first_g c.args.rows.now (omega arith) c.if-rows-ne1.true
-
-pub returns-then-rows-ne0 : goal.returns-then-rows-ne0
-returns-then-rows-ne0 c =
-    let rows = c.args.rows.now in
-    first_delta rows (omega arith) (omega arith) c.if-rows-ne0.true
-
-pub returns : goal.returns
-returns c =
-    let rows = c.args.rows.now in
-    last_delta rows (omega arith) (omega arith) (omega arith)
+pub returns-else-is_none_or : goal.returns-else-is_none_or
+returns-else-is_none_or g c =
+    let a : FirstSays g.T.Slot.entry c.args.list.now c.is_none_or.result = search rules in
+    rw (← first_says g.T.Slot.entry _ _ a, c.if-is_none_or.false)

@@ -1,28 +1,14 @@
--- `greenwald_khanna_told::tell` meets its contract: each return is a case of the definition.
+-- `greenwald_khanna_told::tell` meets its contract: what the tests refuse is refused, and what they pass is told.
 -- Assumes nothing.
-use mathlib.Core.Path.{◌≡◌, sym, ◌∙◌}
-use mathlib.Core.Bool.{true, false}
-use native.Mathlib.Omega.{arith}
-use Rattle.entries.specs.Entry.{entries_of}
-use Rattle.greenwald_khanna_steps.specs.Sound.{sound}
-use Rattle.greenwald_khanna_told.proofs.Exactly.{told_exactly}
-use Rattle.greenwald_khanna_steps.proofs.Openings.{few, many, enough}
+use Rattle.std.proofs.Common.{map}
+use Rattle.std.proofs.lemmas.Result.{err_from_is_err_and}
+use Rattle.greenwald_khanna_told.proofs.Returns.{told_refused, told_passed}
 use Rattle.greenwald_khanna_told.proofs.tell.Goals as goal
 
-pub returns-then-slots-lt1 : goal.returns-then-slots-lt1
-returns-then-slots-lt1 c = sym ((told_exactly c.args.stream (entries_of c.args.rows.now) c.args.x).slots.1 (few c.args.rows.now (omega arith)))
-
-pub returns-then-slots-gt-SLOTS : goal.returns-then-slots-gt-SLOTS
-returns-then-slots-gt-SLOTS c = sym ((told_exactly c.args.stream (entries_of c.args.rows.now) c.args.x).slots.1 (many c.args.rows.now (omega arith) (omega arith)))
-
-pub returns-then-is_sound : goal.returns-then-is_sound
-returns-then-is_sound c =
-    let list = entries_of c.args.rows.now in
-    let t : sound c.args.stream list ≡ true = sym c.is_sound.ensures ∙ c.if-is_sound.true in
-    sym ((told_exactly c.args.stream list c.args.x).value.1 (enough c.args.rows.now (omega arith) (omega arith), t))
+pub returns-in_err-check : goal.returns-in_err-check
+returns-in_err-check g c =
+    let p = err_from_is_err_and c.from_residual.result c.from_residual.ensures.1 in
+    rw (p.1, p.2) (told_refused c.args.stream (map g.T.Slot.entry c.args.list.now) c.args.x _ c.in_err-check.ensures)
 
 pub returns : goal.returns
-returns c =
-    let list = entries_of c.args.rows.now in
-    let t : sound c.args.stream list ≡ false = sym c.is_sound.ensures ∙ c.if-is_sound.false in
-    sym ((told_exactly c.args.stream list c.args.x).damaged.1 (enough c.args.rows.now (omega arith) (omega arith), t))
+returns g c = told_passed c.args.stream (map g.T.Slot.entry c.args.list.now) c.args.x c.in_ok-check.ensures

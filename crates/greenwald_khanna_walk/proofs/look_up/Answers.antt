@@ -1,26 +1,22 @@
--- `greenwald_khanna_walk::look_up` meets its contract: before the row i the walk from there gives what the whole gives.
+-- `greenwald_khanna_walk::look_up` meets its contract: before each place the walk from there gives what the whole gives.
 -- Assumes nothing.
-use native.Mathlib.Omega.{arith}
+use Rattle.std.proofs.Common.{arith}
 use Rattle.greenwald_khanna_walk.proofs.Walks.{begin, stop, go, finish}
 use Rattle.greenwald_khanna_walk.proofs.look_up.Goals as goal
 
-pub loop-i-init : goal.loop-i-init
-loop-i-init c =
-    (omega arith, omega arith, omega arith, rw c.wide-sum.ensures.0 (begin c.args.limit c.args.rows.now (omega arith)))
+pub loop-place-init : goal.loop-place-init
+loop-place-init g c =
+    let b = begin g.T.Slot.entry c.args.limit c.args.list.now _ _ (omega arith) c.index-list-0.is c.entry-first.ensures in
+    (omega arith, cc)
 
 pub returns-then-limit-reached : goal.returns-then-limit-reached
-returns-then-limit-reached c =
-    stop c.args.limit c.args.rows.now c.loop-i.i c.loop-i.sum c.loop-i.v c.loop-i.invariant.3 (omega arith) (omega arith)
+returns-then-limit-reached g c =
+    stop g.T.Slot.entry c.args.limit _ _ _ _ _ c.loop-place.invariant.1 _ _ c.loop-place-test.true c.place-item.is c.entry-e.ensures (omega arith)
 
-pub loop-i-preserved : goal.loop-i-preserved
-loop-i-preserved c = (
-  omega arith,
-  omega arith,
-  omega arith,
-  rw c.wide.ensures.0
-      (go c.args.limit c.args.rows.now c.loop-i.i c.loop-i.sum c.loop-i.v c.loop-i.invariant.3 (omega arith) (omega arith)),
-)
+pub loop-place-preserved : goal.loop-place-preserved
+loop-place-preserved g c =
+    let on = go g.T.Slot.entry c.args.limit _ _ _ _ _ c.loop-place.invariant.1 _ _ c.loop-place-test.true c.place-item.is c.entry-e.ensures (omega arith) in
+    (omega arith, cc)
 
 pub returns : goal.returns
-returns c =
-    finish c.args.limit c.args.rows.now c.loop-i.i c.loop-i.sum c.loop-i.v c.loop-i.invariant.3 (omega arith)
+returns g c = finish g.T.Slot.entry c.args.limit _ c.loop-place.place-index _ _ _ c.loop-place.invariant.1 (omega arith)

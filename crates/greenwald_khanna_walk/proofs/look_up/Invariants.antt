@@ -1,13 +1,12 @@
 use mathlib.Core.Path.{◌≡◌}
-use Prim.Native.Nat.{◌-◌, ◌*◌, ◌≤◌, ◌<◌}
+use mathlib.Core.List.{map}
 use mathlib.Core.Option.{some}
-use lib.ListN.{length, drop}
-use Rattle.entries.specs.Entry.{entries_of}
+use Prim.Native.Nat.{◌+◌, ◌*◌, ◌≤◌}
+use lib.ListN.{drop}
 use Rattle.greenwald_khanna_theory.specs.Walk.{walk, look_up}
 use Rattle.greenwald_khanna_walk.proofs.look_up.Given as goal
 
-abbrev pub invariant-loop-i : goal.invariant-loop-i
-invariant-loop-i l = (0 < l.i) × (l.i ≤ length l.rows) × (l.sum < l.i * 4294967296) × (look_up l.limit (entries_of l.rows) ≡ some (walk l.limit l.sum l.v (entries_of (drop l.i l.rows))))
-
-abbrev pub decreases-loop-i : goal.decreases-loop-i
-decreases-loop-i l = length l.rows - l.i
+abbrev pub invariant-loop-place : goal.invariant-loop-place
+invariant-loop-place g l =
+    (l.sum ≤ (l.place-index + 1) * 4294967295)
+    × (look_up l.limit (map g.T.Slot.entry l.list) ≡ some (walk l.limit l.sum l.v (map g.T.Slot.entry (drop l.place-index l.place-items))))

@@ -3,19 +3,18 @@
 use mathlib.Core.Path.{ap, ◌∙◌}
 use native.Mathlib.Omega.{arith}
 use Rattle.histogram_steps.specs.State.{taken}
-use Rattle.histogram_steps.proofs.Standings.{ready}
-use Rattle.histogram_told.proofs.Answering.{total_few, binned}
+use Rattle.histogram_steps.proofs.Standings.{ready, total_few, binned}
 use Rattle.histogram.proofs.Cases.{taken_insert}
 use Rattle.histogram.proofs.insert.Goals as goal
 
 pub raise-requires : goal.raise-requires
 raise-requires c =
-    let s = ready c.args.histogram c.args.bounds.now c.args.counts.now c.standing-standing.ensures c.in_default.is in
+    let s = ready c.args.histogram c.args.bounds.now c.args.counts.now c.standing.ensures c.in_ok-standing.was in
     (binned s, omega (arith, total_few s))
 
 pub returns : goal.returns
 returns c =
-    let s = ready c.args.histogram c.args.bounds.now c.args.counts.now c.standing-standing.ensures c.in_default.is in
-    taken_insert s c.args.v (omega arith) (omega (arith, c.wide.ensures))
-    (c.taken.ensures ∙ ap (taken c.args.histogram) c.wide.ensures.0)
+    let s = ready c.args.histogram c.args.bounds.now c.args.counts.now c.standing.ensures c.in_ok-standing.was in
+    taken_insert s c.args.v (omega arith) (omega arith)
+    (c.taken.ensures ∙ ap (taken c.args.histogram) c.from.ensures)
     c.raise.ensures

@@ -1,10 +1,10 @@
 -- `noise_floor::floor` meets its contract: those of opening, of all inserts and of the quantile, put together.
 -- Assumes nothing.
-use Rattle.entries.specs.Entry.{entries_of}
+use mathlib.Core.List.{map}
 use Rattle.noise_floor.proofs.Scans.{floor_answered}
 use Rattle.noise_floor.proofs.floor.Goals as goal
 
-pub returns-in-Open : goal.returns-in-Open
-returns-in-Open c =
-    floor_answered c.args.epsilon (entries_of c.args.rows.now) c.args.observations.now c.args.phi c.open.result (entries_of c.open.new.rows) c.open.ensures
-    c.in-Open.stream c.in-Open.is c.insert_all.result (entries_of c.insert_all.new.rows) c.quantile.result c.insert_all.ensures c.quantile.ensures
+pub returns : goal.returns
+returns g c =
+    floor_answered c.args.epsilon (map g.T.Slot.entry c.args.list.now) c.args.observations.now c.args.phi c.open.result (map g.T.Slot.entry c.open.new.list) c.open.ensures
+    c.in_ok-opened.opened c.in_ok-opened.was c.insert_all-scanned.result (map g.T.Slot.entry c.insert_all-scanned.new.list) c.quantile.result c.insert_all-scanned.ensures c.quantile.ensures

@@ -1,26 +1,21 @@
 -- `scan_insert::insert_all` meets its contract: inserting what is left, from where the loop stands, comes to the same end.
 -- Assumes nothing.
-use native.Mathlib.Omega.{arith}
-use borrow.Author.Rules.{rules}
 use Rattle.entries.specs.Entry.{entries_of}
 use Rattle.scan_file.specs.Layout.{observation_at}
 use Rattle.scan_insert.proofs.Inserting.{ran_on, ran_stopped, ran_done}
 use Rattle.scan_insert.proofs.insert_all.Goals as goal
 
-pub returns-in_default : goal.returns-in_default
-returns-in_default c =
-    ran_stopped (observation_at c.args.bytes.now c.args.layout.fractions) c.args.layout.observations c.loop-i.i _ c.loop-i.stream (entries_of c.loop-i.rows) c.loop-i.invariant.2
-    (omega arith) c.observation.result c.observation.ensures c.insert-inserted.result (entries_of c.insert-inserted.new.rows) c.insert-inserted.ensures _ c.why_inserted.result c.in_default.is
-    c.why_inserted.ensures
+pub returns-in-Err : goal.returns-in-Err
+returns-in-Err c =
+    ran_stopped (observation_at c.args.bytes.now c.args.layout.fractions) c.args.layout.observations c.loop-i.i _ c.loop-i.stream (entries_of c.loop-i.rows)
+    c.loop-i.invariant c.loop-i-test.true c.insert.result (entries_of c.insert.new.list) (rw c.observation.ensures at c.insert.ensures) c.in-Err.why c.in-Err.is
 
 pub loop-i-preserved : goal.loop-i-preserved
-loop-i-preserved c = (
-  omega arith,
-  search rules,
-  ran_on (observation_at c.args.bytes.now c.args.layout.fractions) c.args.layout.observations c.loop-i.i _ c.loop-i.stream (entries_of c.loop-i.rows) c.loop-i.invariant.2
-      (omega arith) c.observation.result c.observation.ensures c.insert-inserted.result (entries_of c.insert-inserted.new.rows) c.insert-inserted.ensures _ c.in-Taken.is,
-)
+loop-i-preserved c =
+    ran_on (observation_at c.args.bytes.now c.args.layout.fractions) c.args.layout.observations c.loop-i.i _ c.loop-i.stream (entries_of c.loop-i.rows)
+    c.loop-i.invariant c.loop-i-test.true c.insert.result (entries_of c.insert.new.list) (rw c.observation.ensures at c.insert.ensures) c.in-Ok.next c.in-Ok.is
 
 pub returns : goal.returns
 returns c =
-    ran_done (observation_at c.args.bytes.now c.args.layout.fractions) c.args.layout.observations c.loop-i.i _ c.loop-i.stream (entries_of c.loop-i.rows) c.loop-i.invariant.2 (omega arith)
+    ran_done (observation_at c.args.bytes.now c.args.layout.fractions) c.args.layout.observations c.loop-i.i _ c.loop-i.stream (entries_of c.loop-i.rows)
+    c.loop-i.invariant c.loop-i-test.false

@@ -1,24 +1,22 @@
 -- `scan_write::write_scan` meets its contract: the lines put one behind the other, with or without that of a refused insert.
 -- Assumes nothing.
-use mathlib.Core.List.{map}
 use Rattle.entries.specs.Entry.{entries_of}
-use Rattle.scan_file.specs.Layout.{fraction_at}
-use Rattle.scan_file.specs.Words.{each}
-use Rattle.scan_put.proofs.Texts.{put_both}
-use Rattle.scan_write.specs.ScanLines.{fraction_line}
-use Rattle.scan_write.proofs.Writing.{none_refused, one_refused, scan_written}
+use Rattle.refusal.specs.Number.{number_of}
+use Rattle.scan_put.specs.Put.{Put}
+use Rattle.scan_text.specs.declared.Line.TheVariants.{InsertRefused}
+use Rattle.scan_file.specs.Layout.{fractions_at}
+use Rattle.scan_write.specs.ScanLines.{refused_line, texts}
+use Rattle.scan_write.proofs.Writing.{none_put, one_put, scan_written}
 use Rattle.scan_write.proofs.write_scan.Goals as goal
-
-pub returns-then-ran-eq0 : goal.returns-then-ran-eq0
-returns-then-ran-eq0 c =
-    let fs = each (fraction_at c.args.bytes.now) 0 c.args.layout.fractions in
-    let ls = map (fraction_line c.args.ran.stream (entries_of c.args.rows.now)) fs in
-    scan_written c.args.ran (entries_of c.args.rows.now) fs _ c.spell-after_taken.ensures.0 c.spell-after_held.ensures.0 c.write_fractions.ensures
-    (none_refused c.args.ran.refused ls c.if-ran-eq0.true)
+use Rattle.scan_write.proofs.write_scan.Goals.{in-Some, in_default}
 
 pub returns : goal.returns
 returns c =
-    let fs = each (fraction_at c.args.bytes.now) 0 c.args.layout.fractions in
-    let ls = map (fraction_line c.args.ran.stream (entries_of c.args.rows.now)) fs in
-    scan_written c.args.ran (entries_of c.args.rows.now) fs _ c.spell-after_taken.ensures.0 c.spell-after_held.ensures.0
-    (put_both c.spell-after_refused.ensures.0 c.write_fractions-2.ensures) (one_refused c.args.ran.refused ls c.if-ran-eq0.false)
+    let refused : Put (texts (refused_line c.args.ran.refused)) c.spell-at.result c.spell-at.new.out c.match-ran.at c.match-ran.out =
+    elim c.match-ran.branch [
+      | in-Some w ↦ rw (w.in-Some.is, w.at-is, w.out-is) (one_put (InsertRefused (number_of w.in-Some.why)) (rw w.number.ensures at w.spell-at-in-Some.ensures.0))
+      | in_default w ↦ rw (w.in_default.is, w.at-is, w.out-is) (none_put c.spell-at.new.out c.spell-at.result)
+    ]
+    in
+    scan_written c.args.ran (entries_of c.args.rows.now) (fractions_at c.args.bytes.now c.args.layout.fractions)
+    c.spell-after_taken.ensures.0 c.spell-at.ensures.0 refused c.write_fractions.ensures

@@ -1,30 +1,18 @@
--- `search::smaller` meets its contract: all before `low` are smaller, and none from `high` on.
+-- `search::smaller` meets its contract: the search ends behind the values that are smaller.
 -- Assumes nothing.
-use Prim.Native.Nat.{ℕ, ◌+◌, ◌-◌, ◌/◌}
-use native.Mathlib.Omega.{arith}
-use Rattle.entries.specs.Entry.{entries_of, values}
-use Rattle.entries.proofs.Maps.{value_at, length_values}
-use Rattle.entries.proofs.Places.{narrowed_up, narrowed_down, narrowed_met}
+use Rattle.std.proofs.Common.{rules, of_calls, sym, ◌∙◌, ap, ℕ, ltb, subst}
+use Rattle.std.proofs.lemmas.List.Sorted.{IsPartitionedBy-ltb, IsPartitionPoint-from_clause}
+use Rattle.entries.specs.Ranks.{Rising, below}
+use Rattle.entries.proofs.Points.{passing_point, below_passing, rising_by, values_by}
 use Rattle.search.proofs.smaller.Goals as goal
 
-pub loop-low-preserved-then-rows-middle : goal.loop-low-preserved-then-rows-middle
-loop-low-preserved-then-rows-middle c =
-    let rows = c.args.rows.now in
-    let m : ℕ = c.loop-low.low + (c.loop-low.high - c.loop-low.low) / 2 in (
-      omega arith,
-      narrowed_up (values (entries_of rows)) c.args.x c.loop-low.low c.loop-low.high m c.loop-low.invariant.1 c.requires
-          (omega (arith, length_values rows)) (omega arith) (omega (arith, value_at rows m)),
-    )
-
-pub loop-low-preserved : goal.loop-low-preserved
-loop-low-preserved c =
-    let rows = c.args.rows.now in
-    let m : ℕ = c.loop-low.low + (c.loop-low.high - c.loop-low.low) / 2 in (
-      omega arith,
-      narrowed_down (values (entries_of rows)) c.args.x c.loop-low.low c.loop-low.high m c.loop-low.invariant.1 c.requires
-          (omega (arith, length_values rows)) (omega arith) (omega (arith, value_at rows m)),
-    )
-
 pub returns : goal.returns
-returns c =
-    narrowed_met (values (entries_of c.args.rows.now)) c.args.x c.loop-low.low c.loop-low.high c.loop-low.invariant.1 (omega arith)
+returns g c =
+    let value : g.row.T.Denot → ℕ = λ t. (g.T.Slot.entry t).v in
+    let xs = c.args.list.now in
+    let sorted = rising_by value xs (subst (Rising 0) (values_by g.T.Slot.entry xs) c.requires) in
+    let point = IsPartitionPoint-from_clause (λ t. ltb (value t) c.args.x) xs c.partition_point.result c.partition_point.ensures.partitioned
+    (IsPartitionedBy-ltb value xs c.args.x sorted) (λ a r f h. search (rules, of_calls)) in
+    sym (ap (λ vs. below vs c.args.x) (values_by g.T.Slot.entry xs)
+    ∙ below_passing value c.args.x xs
+    ∙ passing_point (λ t. ltb (value t) c.args.x) xs c.partition_point.result c.partition_point.ensures.bound point)

@@ -1,34 +1,18 @@
--- `ckms_rows::lists::blocks_sound` meets its contract: what is left to test decides as the whole does.
+-- `ckms_rows::lists::blocks_sound` meets its contract: the test of each length and of their sum is what the definition asks of them one by one.
 -- Assumes nothing.
-use native.Mathlib.Omega.{arith}
-use Rattle.ckms_theory.specs.Lists.{blocks_sound}
-use Rattle.ckms_rows.proofs.Sounds.{blocks_done, blocks_none, blocks_large, blocks_go}
+use Rattle.std.proofs.Common.{◌≡◌, ap, ◌&&◌, leb, eqb, zero-add, rules, tests, sum_by}
+use Rattle.std.proofs.lemmas.Iterator.{YieldsList-from_slice}
+use Rattle.std.proofs.lemmas.Iterator.Search.{all_from_yields_List}
+use Rattle.ckms_rows.proofs.Sounds.{blocks_cut}
 use Rattle.ckms_rows.proofs.lists.blocks_sound.Goals as goal
 
-pub returns-then-len-lt1 : goal.returns-then-len-lt1
-returns-then-len-lt1 c =
-    let a = c.args in
-    let ls = a.lens.now in
-    blocks_none a.size a.held ls c.loop-i.i c.loop-i.sum (blocks_sound a.size a.held 0 ls) c.loop-i.invariant.2 (omega arith) c.if-len-lt1.true
+pub returns-then-all : goal.returns-then-all
+returns-then-all c =
+    let all = all_from_yields_List (λ a. leb 1 a && leb a c.args.size) _ _ c.all.result c.all.ensures.ran (YieldsList-from_slice c.args.lens.now cc) (λ x b q k. search (rules, tests)) in
+    let summed : c.sum.result ≡ sum_by (λ a. a) c.args.lens.now = search rules in
+    rw (blocks_cut c.args.size c.args.held 0 c.args.lens.now, ← all, c.if-all.true, ← summed, zero-add) (ap (eqb c.sum.result) c.from.ensures)
 
-pub returns-then-size-len : goal.returns-then-size-len
-returns-then-size-len c =
-    let a = c.args in
-    let ls = a.lens.now in
-    blocks_large a.size a.held ls c.loop-i.i c.loop-i.sum (blocks_sound a.size a.held 0 ls) c.loop-i.invariant.2 (omega arith) c.if-len-lt1.false c.if-size-len.true
-
-pub loop-i-preserved : goal.loop-i-preserved
-loop-i-preserved c =
-    let a = c.args in
-    let ls = a.lens.now in (
-      omega arith,
-      omega arith,
-      rw c.wide-sum.ensures.0 (blocks_go a.size a.held ls c.loop-i.i c.loop-i.sum (blocks_sound a.size a.held 0 ls) c.loop-i.invariant.2 (omega arith) c.if-len-lt1.false c.if-size-len.false),
-    )
-
-pub returns : goal.returns
-returns c =
-    let a = c.args in
-    let ls = a.lens.now in
-    rw c.wide.ensures.0
-    (blocks_done a.size a.held ls c.loop-i.i c.loop-i.sum (blocks_sound a.size a.held 0 ls) c.loop-i.invariant.2 (omega arith))
+pub returns-else-all : goal.returns-else-all
+returns-else-all c =
+    let all = all_from_yields_List (λ a. leb 1 a && leb a c.args.size) _ _ c.all.result c.all.ensures.ran (YieldsList-from_slice c.args.lens.now cc) (λ x b q k. search (rules, tests)) in
+    rw (blocks_cut c.args.size c.args.held 0 c.args.lens.now, ← all, c.if-all.false)

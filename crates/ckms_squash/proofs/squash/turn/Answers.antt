@@ -6,9 +6,11 @@ use Rattle.ckms_squash.proofs.squash.turn.Goals as goal
 
 pub returns-then-merges : goal.returns-then-merges
 returns-then-merges c =
-    turn_merged c.args.error c.args.rows.now c.args.w c.args.i c.merge-both.result
-    (rw c.step_rank.ensures at (sym c.merges.ensures ∙ c.if-merges.true)) c.merge-both.ensures
+    turn_merged c.args.error.fraction c.args.rows.now c.args.w c.args.i c.holding.result
+    (rw (c.entry-current.ensures, c.entry-next.ensures) at (sym c.merges.ensures ∙ c.if-merges.true))
+    (rw (c.entry-current.ensures, c.entry-next.ensures) at (c.holding.ensures ∙ c.merge.ensures))
 
 pub returns : goal.returns
 returns c =
-    turn_kept c.args.error c.args.rows.now c.args.w c.args.i (rw c.step_rank.ensures at (sym c.merges.ensures ∙ c.if-merges.false))
+    turn_kept c.args.error.fraction c.args.rows.now c.args.w c.args.i
+    (rw (c.entry-current.ensures, c.entry-next.ensures) at (sym c.merges.ensures ∙ c.if-merges.false))

@@ -1,37 +1,36 @@
 -- `ckms_store_steps::Store::open` meets its contract: each refusal in its case, or a fresh store over zeroed lists.
 -- Assumes nothing.
-use mathlib.Core.Path.{sym, ap, ◌∙◌}
-use lib.ListN.{length, length-map}
+use mathlib.Core.Path.{◌≡◌}
+use lib.ListN.{length, replicate, length-map}
+use Rattle.std.proofs.Common.{arith}
+use Rattle.std.proofs.lemmas.Grind.{common_steps}
+use Rattle.std.proofs.lemmas.List.Elements.{same_from_all_zip}
 use Rattle.entries.specs.Entry.{zero_entry, row_of, entry_of, entries_of}
-use Rattle.entries.proofs.Maps.{map_cleared}
-use Rattle.ckms_store_steps.proofs.Tests.{slots_facts}
-use Rattle.ckms_store_steps.proofs.Openings.{open_slots, open_epsilon, open_block, open_fresh}
+use Rattle.entries.proofs.Maps.{map_replicate}
+use Rattle.ckms_store_steps.specs.Opening.{opened}
+use Rattle.ckms_store_steps.proofs.Openings.{open_refused, open_fresh}
 use Rattle.ckms_store_steps.proofs.Store.open.Goals as goal
 
-pub returns-then-size_ok : goal.returns-then-size_ok
-returns-then-size_ok c =
-    let list = entries_of c.args.rows.now in
-    let lens = c.args.lens.now in
-    let f = slots_facts (length c.args.rows.now) (length lens) (sym c.slots_ok.ensures ∙ c.if-slots_ok.true) in
-    open_fresh c.args.error c.args.block list lens (rw (length-map c.args.rows.now entry_of) (sym c.slots_ok.ensures ∙ c.if-slots_ok.true)) (sym c.is_error.ensures ∙ c.if-is_error.true) (sym c.size_ok.ensures ∙ c.if-size_ok.true)
-    (entries_of c.clear.new.rows) c.clear_numbers.new.s
-    (ap entries_of c.clear.ensures ∙ map_cleared entry_of (row_of zero_entry) 0 (length c.args.rows.now) c.args.rows.now ∙ rw (length-map c.args.rows.now entry_of))
-    (rw (← f.2) at c.clear_numbers.ensures)
+pub returns-then-not-slots_ok : goal.returns-then-not-slots_ok
+unfolding opened
+returns-then-not-slots_ok c =
+    open_refused c.args.error c.args.block (entries_of c.args.rows.now) c.args.lens.now _ (rw (length-map c.args.rows.now entry_of) (grind (arith, common_steps)))
 
-pub returns-then-is_error : goal.returns-then-is_error
-returns-then-is_error c =
-    let list = entries_of c.args.rows.now in
-    let lens = c.args.lens.now in
-    open_block c.args.error c.args.block list lens (rw (length-map c.args.rows.now entry_of) (sym c.slots_ok.ensures ∙ c.if-slots_ok.true)) (sym c.is_error.ensures ∙ c.if-is_error.true) (sym c.size_ok.ensures ∙ c.if-size_ok.false)
+pub returns-then-not-is_error : goal.returns-then-not-is_error
+unfolding opened
+returns-then-not-is_error c =
+    open_refused c.args.error c.args.block (entries_of c.args.rows.now) c.args.lens.now _ (rw (length-map c.args.rows.now entry_of) (grind (arith, common_steps)))
 
-pub returns-then-slots_ok : goal.returns-then-slots_ok
-returns-then-slots_ok c =
-    let list = entries_of c.args.rows.now in
-    let lens = c.args.lens.now in
-    open_epsilon c.args.error c.args.block list lens (rw (length-map c.args.rows.now entry_of) (sym c.slots_ok.ensures ∙ c.if-slots_ok.true)) (sym c.is_error.ensures ∙ c.if-is_error.false)
+pub returns-then-not-size_ok : goal.returns-then-not-size_ok
+unfolding opened
+returns-then-not-size_ok c =
+    open_refused c.args.error c.args.block (entries_of c.args.rows.now) c.args.lens.now _ (rw (length-map c.args.rows.now entry_of) (grind (arith, common_steps)))
 
 pub returns : goal.returns
+unfolding opened
 returns c =
-    let list = entries_of c.args.rows.now in
-    let lens = c.args.lens.now in
-    open_slots c.args.error c.args.block list lens (rw (length-map c.args.rows.now entry_of) (sym c.slots_ok.ensures ∙ c.if-slots_ok.false))
+    let rows = c.args.rows.now in
+    let old = length-map rows entry_of in
+    let zeros : c.fill.new.self ≡ replicate (length rows) (row_of zero_entry) = c.fill.ensures.after (λ y e. same_from_all_zip _ _ y e.whole (λ a b s. s)) in
+    open_fresh c.args.error c.args.block (entries_of rows) c.args.lens.now (rw old (grind (arith, common_steps))) (grind (arith, common_steps)) (grind (arith, common_steps))
+    (entries_of c.fill.new.self) c.fill-2.new.self (rw (old, zeros) (map_replicate entry_of (length rows) (row_of zero_entry))) (c.fill-2.ensures.after (λ y e. e))

@@ -1,9 +1,10 @@
--- `histogram_rows::counts::total` meets its contract: the first i counts are added up.
+-- `histogram_rows::counts::total` meets its contract: what the iterator adds up are the counts.
 -- Assumes nothing.
-use native.Mathlib.Omega.{arith}
-use Rattle.entries.proofs.Totals.{total_more}
+use Rattle.std.proofs.Common.{rules, ◌≡◌, ◌∙◌, sum_by}
+use Rattle.histogram_rows.proofs.Summing.{sum_by_total}
 use Rattle.histogram_rows.proofs.counts.total.Goals as goal
 
-pub loop-i-preserved : goal.loop-i-preserved
-loop-i-preserved c =
-    (omega arith, omega (arith, total_more c.args.counts.now c.loop-i.i (omega arith)), omega arith)
+pub returns : goal.returns
+returns c =
+    let summed : c.sum.result ≡ sum_by (λ x. x) c.args.counts.now = search rules in
+    summed ∙ sum_by_total c.args.counts.now

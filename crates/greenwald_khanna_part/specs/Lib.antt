@@ -1,3 +1,0 @@
-pub mod InReach
-pub mod Questions
-pub mod Reach

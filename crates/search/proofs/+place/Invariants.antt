@@ -1,5 +1,0 @@
-use lib.ListN.{length}
-use Rattle.search.proofs.+place.Given as goal
-
-abbrev pub decreases-place : goal.decreases-place
-decreases-place l = length l.rows.now
