@@ -1,4 +1,5 @@
 // The CKMS: a store of block size 2,048, with an insert counter, the last value and the running mean.
+// The lent lists stay arguments beside the state, as README's calls and C lend them.
 #![tactic(auto)]
 
 ghost use Rattle.std.specs.Prelude.{◌≡◌};

@@ -1,6 +1,6 @@
--- A CKMS's state written as words, and the answers of the calls on a CKMS as numbers.
+-- The answers of the calls on a CKMS as numbers.
 -- Assumes nothing: these are definitions.
-use Rattle.std.specs.Prelude.{ℕ, false, pos, Float, Option, Some, None, Result, Ok, Err}
+use Rattle.std.specs.Prelude.{ℕ, false, pos, Option, Result, Ok, Err}
 use Rattle.std.specs.Float.{fin}
 use Rattle.refusal.specs.declared.Refusal.{Refusal}
 use Rattle.refusal.specs.Number.{number_of}
@@ -10,42 +10,11 @@ use Rattle.ckms_steps.specs.declared.CKMS.{CKMS}
 use Rattle.words.specs.declared.Number.{Number}
 use Rattle.words.specs.Words.{number_told}
 use Rattle.ckms_words.specs.declared.CkmsWords.{CkmsWords}
-use Rattle.ckms_words.specs.Ckmses.{misfit}
+use Rattle.ckms_words.specs.Ckmses.{misfit, words_of, last_flag, last_word, mean_flag, mean_word}
 use Rattle.ckms_answer_words.specs.declared.CkmsAnswer.{CkmsAnswer}
 use Rattle.ckms_answer_words.specs.declared.LastAnswer.{LastAnswer}
 use Rattle.ckms_answer_words.specs.declared.MeanAnswer.{MeanAnswer}
 use Rattle.ckms_answer_words.specs.declared.ErrorAnswer.{ErrorAnswer}
-
--- the words of a state: what there is not, is 0 behind a flag of 0
-abbrev pub last_flag : Option ℕ → ℕ
-last_flag None = 0
-last_flag (Some v) = 1
-
-abbrev pub last_word : Option ℕ → ℕ
-last_word None = 0
-last_word (Some v) = v
-
-abbrev pub mean_flag : Option Mean → ℕ
-mean_flag None = 0
-mean_flag (Some m) = 1
-
-abbrev pub mean_word : Option Mean → Float
-mean_word None = fin false 0 (pos 0)
-mean_word (Some m) = m.value
-
-abbrev pub words_of : CKMS → CkmsWords
-words_of c = record {
-  num = c.error.num;
-  den = c.error.den;
-  n = c.n;
-  held = c.held;
-  blocks = c.blocks;
-  inserts = c.inserts;
-  has_last = last_flag c.last_in;
-  last = last_word c.last_in;
-  has_mean = mean_flag c.cma;
-  mean = mean_word c.cma;
-}
 
 -- an insert: the CKMS after it, or the refusal's number and the CKMS that was given
 abbrev pub flat_inserted : CkmsWords → Result CKMS Refusal → CkmsAnswer

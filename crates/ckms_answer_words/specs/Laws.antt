@@ -3,8 +3,7 @@
 use Rattle.std.specs.Prelude.{◌≡◌}
 use Rattle.ckms_steps.specs.declared.CKMS.{CKMS}
 use Rattle.ckms_words.specs.Ckmses as ckms
-use Rattle.ckms_answer_words.specs.CkmsAnswers as answers
 
 -- the words of a state are read as that state again
 unfoldable pub CkmsBack : Type 0
-CkmsBack = (c : CKMS) → ckms.Narrow (answers.words_of c) → ckms.ckms_of (answers.words_of c) ≡ c
+CkmsBack = (c : CKMS) → ckms.Narrow (ckms.words_of c) → ckms.ckms_of (ckms.words_of c) ≡ c

@@ -1,13 +1,13 @@
-// A CKMS written as words, and what the calls on one answer: the refusal's number or 0, and what the core answered.
+// What the calls on a CKMS answer, in words: the refusal's number or 0, and what the core answered.
 // C reads these structs, so a refusal is a number in them, and what there may not be stands behind a flag.
 #![tactic(auto)]
 
 ghost use Rattle.std.specs.Prelude.{◌≡◌};
 ghost use Rattle.ckms_answer_words.specs.Promises.{Promises};
-ghost use Rattle.ckms_answer_words.specs.CkmsAnswers.{words_of, flat_opened, flat_inserted, flat_last, flat_average, flat_error};
+ghost use Rattle.ckms_answer_words.specs.CkmsAnswers.{flat_inserted, flat_last, flat_average, flat_error};
 
 use ckms::CKMS;
-use ckms_words::{CkmsWords, misfit};
+use ckms_words::CkmsWords;
 use fraction::Fraction;
 use mean::Mean;
 use refusal::Refusal;
@@ -47,38 +47,13 @@ pub struct ErrorAnswer {
     pub error: Ratio,
 }
 
-// The words of a state: what there is not, is 0 behind a flag of 0. No `From`, since both types are of crates below.
-fn words(ckms: CKMS) -> CkmsWords
-    ensures { result ≡ words_of ckms }
-{
-    CkmsWords {
-        num: u64::from(ckms.error.num),
-        den: u64::from(ckms.error.den),
-        n: u64::from(ckms.n),
-        held: u64::from(ckms.held),
-        blocks: u64::from(ckms.blocks),
-        inserts: u64::from(ckms.inserts),
-        has_last: u64::from(ckms.last_in.is_some()),
-        last: u64::from(ckms.last_in.unwrap_or(0)),
-        has_mean: u64::from(ckms.cma.is_some()),
-        mean: ckms.cma.map_or(0.0, |mean| mean.value),
-    }
-}
-
 impl CkmsAnswer {
-    // What an insert answers: the state as it was given where it is refused.
+    // What a call that gives a CKMS answers: the state as it was given where the call is refused.
     pub fn new(answer: Result<CKMS, Refusal>, given: CkmsWords) -> CkmsAnswer
         ensures { result ≡ flat_inserted given answer }
     {
-        let (refusal, ckms) = words::answered(answer.map(words), given);
+        let (refusal, ckms) = words::answered(answer.map(CkmsWords::from), given);
         CkmsAnswer { refusal, ckms }
-    }
-
-    // What opening answers: the words of a state that is never sound where it is refused.
-    pub fn opened(answer: Result<CKMS, Refusal>) -> CkmsAnswer
-        ensures { result ≡ flat_opened answer }
-    {
-        CkmsAnswer::new(answer, words(misfit()))
     }
 }
 
@@ -118,10 +93,7 @@ impl From<Result<Fraction, Refusal>> for ErrorAnswer {
         let (refusal, error) = words::answered(answer, Fraction { num: 0, den: 0 });
         ErrorAnswer {
             refusal,
-            error: Ratio {
-                num: error.num,
-                den: error.den,
-            },
+            error: error.into(),
         }
     }
 }

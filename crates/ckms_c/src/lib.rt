@@ -28,7 +28,7 @@ pub extern "C" fn stelo_ckms_open(
 ) -> CkmsAnswer
     ensures { CkmsOpenPost error (entries_of list.old) blocks.old result (entries_of list.new) blocks.new }
 {
-    CkmsAnswer::opened(CKMS::open(error.into(), list, blocks))
+    CkmsAnswer::new(CKMS::open(error.into(), list, blocks), CkmsWords::default())
 }
 
 // One observation more. Refused: SLOTS, DAMAGED, COUNT, FULL.

@@ -1,4 +1,4 @@
-// Whether a list of rows, and a list of block lengths, is sound.
+// Whether a list of rows, and a list of block lengths, is sound. The stream's test asks something else of delta, and of the two ends.
 // The bound on the length stands at each function, and at the walk: a struct around a lent list is no plainer than the clause.
 ghost use Rattle.std.specs.Prelude.{◌≡◌, ◌≤◌, length};
 ghost use Rattle.entries.specs.Entry.{entries_of};

@@ -1,4 +1,4 @@
-// The walk of a query.
+// The walk of a query. The stream has one of its own, which knows no scale and tells no rank.
 ghost use Rattle.std.specs.Prelude.{◌≡◌, ◌≤◌, ◌<◌, length};
 ghost use Rattle.entries.specs.Entry.{entries_of, sum_g};
 ghost use Rattle.ckms_theory.specs.Walk.{look_up};

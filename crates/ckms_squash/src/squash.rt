@@ -1,11 +1,11 @@
 // Compress, first half: one forward pass over the rows with a write place, and the block lengths after it.
 // The write place w and the place i stay two numbers, and the bounds stand at each function: with both in one struct the `for` over i would be
 // steps by hand, and a struct around the lent rows is no plainer than the clause.
-ghost use Rattle.std.specs.Prelude.{◌≡◌, ◌+◌, ◌≤◌, ◌<◌, ◌^◌, length, drop};
+ghost use Rattle.std.specs.Prelude.{◌≡◌, ◌+◌, ◌≤◌, ◌<◌, length, drop};
 ghost use Rattle.entries.specs.Entry.{entries_of};
 ghost use Rattle.ckms_theory.specs.Blocks.{total};
 ghost use Rattle.ckms_theory.specs.Pass.{Turned, Passed, Whole, Finished, Squashed};
-ghost use Rattle.ckms_theory.specs.Squash.{merges, merged};
+ghost use Rattle.ckms_theory.specs.Squash.{merges};
 
 use entries::{Entry, Slot};
 use invariant::AllowedError;
@@ -17,17 +17,6 @@ fn merges(error: AllowedError, r: u32, current: Entry, next: Entry) -> bool
     u64::from(current.g) + u64::from(next.g) + u64::from(next.delta) <= error.inv(r)
 }
 
-// The next entry with the current one's g in it.
-fn merge(current: Entry, next: Entry) -> Entry
-    requires { current.g + next.g < 2 ^ 32 }
-    ensures { result ≡ merged current next }
-{
-    Entry {
-        g: current.g + next.g,
-        ..next
-    }
-}
-
 // One step: the row at i goes into the current one, at w - 1, or stands behind it and is the current one then. How many stand in place.
 // r is i, as the Rust counts it.
 fn turn(rows: &mut [[u32; 3]], w: usize, i: usize, error: AllowedError) -> usize
@@ -37,7 +26,7 @@ fn turn(rows: &mut [[u32; 3]], w: usize, i: usize, error: AllowedError) -> usize
     let current = rows[w - 1].entry();
     let next = rows[i].entry();
     if merges(error, i as u32, current, next) {
-        rows[w - 1] = Slot::holding(merge(current, next));
+        rows[w - 1] = Slot::holding(next.absorbing(current));
         return w;
     }
     rows[w] = rows[i];

@@ -1,4 +1,5 @@
 // The CKMS's state, its opening, and the steps of its calls: the test of every call but opening, and an insert once its tests are passed.
+// The lent lists stay arguments, as in the calls that pass them on.
 #![tactic(auto)]
 
 ghost use Rattle.std.specs.Prelude.{◌≡◌};
@@ -14,6 +15,7 @@ use refusal::Refusal;
 mod record;
 mod steps;
 
+// The store's words stand singly, since its block size is always the same: a store within would bring one that has to be tested.
 // A CKMS's own words: those of the store within, the insert counter, and the last value and the cumulative moving average, while there are any.
 #[derive(Clone, Copy)]
 pub struct CKMS {
@@ -30,7 +32,7 @@ impl CKMS {
     // The block size of the store within.
     pub const BLOCK: u32 = 2048;
 
-    // The block size, as a value that a contract can name.
+    // The block size as a function: its contract ties the constant to the definition.
     pub fn block() -> u32
         ensures { result ≡ block }
     {

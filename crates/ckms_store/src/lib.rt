@@ -1,5 +1,6 @@
 // The CKMS store over a lent list of rows [v, g, delta] and a lent list of as many block lengths, refusals included. Nothing in a state is
 // trusted: every call tests the lengths of the lent lists, then whether state and lists are sound.
+// The lent lists stay arguments beside the state, as README's calls and C lend them.
 #![tactic(auto)]
 
 ghost use Rattle.std.specs.Prelude.{◌≡◌};

@@ -1,4 +1,5 @@
 // An insert into the store within a CKMS, once its tests are passed: one observation more and, on schedule, a compression behind it.
+// Lists and clauses are as in `ckms_store_work`.
 #![tactic(auto)]
 
 ghost use Rattle.std.specs.Prelude.{◌<◌, length};

@@ -1,4 +1,5 @@
 // The store's state, its limits and its opening, and the tests of every call.
+// The lent lists stay arguments, as in the calls that pass them on.
 #![tactic(auto)]
 
 ghost use Rattle.std.specs.Prelude.{◌≡◌, ◌≤◌, length};
@@ -52,7 +53,7 @@ impl Store {
     // The largest denominator.
     pub const DENOMINATOR: u32 = 65536;
 
-    // The limits, as values that a contract can name.
+    // The limits as functions: their contracts tie the constants to the definitions.
     pub fn slots() -> usize
         ensures { result ≡ slots }
     {

@@ -1,5 +1,6 @@
 // What an insert and a compression do once their tests are passed.
 // The rows and the block lengths stay two arguments, as the calls of the C interface lend them: a struct of both would be taken apart at each call.
+// What an insert needs stands as a clause at each step that needs it: a state with that fact would be taken apart at each.
 #![tactic(auto)]
 
 ghost use Rattle.std.specs.Prelude.{◌<◌, length};

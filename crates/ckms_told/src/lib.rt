@@ -1,5 +1,6 @@
 // What a CKMS tells of itself: how many observations were accepted, the last value, the running mean, and the error as opened.
 // Refused: SLOTS, DAMAGED. `ckms` passes the calls on.
+// The lent lists stay arguments, as in the calls that pass them on.
 #![tactic(auto)]
 
 ghost use Rattle.std.specs.Prelude.{◌≡◌};

@@ -1,3 +1,4 @@
+pub mod Backs
 pub mod Fitting
 pub mod Misfits
 pub mod Zeros

@@ -1,6 +1,6 @@
--- The state of a CKMS that words make.
+-- The state of a CKMS that words make, and the words of a state.
 -- Assumes nothing: these are definitions.
-use Rattle.std.specs.Prelude.{ℕ, ◌≤◌, Bool, false, not, cond, ◌&&◌, leb, eqb, Float, Option, Some, None}
+use Rattle.std.specs.Prelude.{ℕ, ◌≤◌, Bool, false, not, cond, ◌&&◌, leb, eqb, pos, Float, Option, Some, None}
 use Rattle.std.specs.Float.{nan, inf, fin}
 use Rattle.ckms_steps.specs.declared.CKMS.{CKMS}
 use Rattle.mean.specs.declared.Mean.{Mean}
@@ -62,3 +62,34 @@ narrowed w = record {
 
 abbrev pub ckms_of : CkmsWords → CKMS
 ckms_of w = cond (fits w) (narrowed w) misfit
+
+-- the words of a state: what there is not, is 0 behind a flag of 0
+abbrev pub last_flag : Option ℕ → ℕ
+last_flag None = 0
+last_flag (Some v) = 1
+
+abbrev pub last_word : Option ℕ → ℕ
+last_word None = 0
+last_word (Some v) = v
+
+abbrev pub mean_flag : Option Mean → ℕ
+mean_flag None = 0
+mean_flag (Some m) = 1
+
+abbrev pub mean_word : Option Mean → Float
+mean_word None = fin false 0 (pos 0)
+mean_word (Some m) = m.value
+
+abbrev pub words_of : CKMS → CkmsWords
+words_of c = record {
+  num = c.error.num;
+  den = c.error.den;
+  n = c.n;
+  held = c.held;
+  blocks = c.blocks;
+  inserts = c.inserts;
+  has_last = last_flag c.last_in;
+  last = last_word c.last_in;
+  has_mean = mean_flag c.cma;
+  mean = mean_word c.cma;
+}

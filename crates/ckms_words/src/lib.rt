@@ -1,10 +1,10 @@
-// A CKMS's state. Words that fit none are read as a state that is never sound, whatever is lent: the core refuses it, after SLOTS, as DAMAGED.
+// A CKMS's state as words, the way in and the way out. Words that fit none are read as a state that is never sound, whatever is lent: the core refuses it, after SLOTS, as DAMAGED.
 // The mean is an f64 here: a NaN is then a value which the core can refuse. C reads this struct, so what there may not be stands behind a flag.
 #![tactic(auto)]
 
 ghost use Rattle.std.specs.Prelude.{◌≡◌, cond};
 ghost use Rattle.ckms_words.specs.Promises.{Promises};
-ghost use Rattle.ckms_words.specs.Ckmses.{plus_zero, narrow, misfit, narrowed, ckms_of};
+ghost use Rattle.ckms_words.specs.Ckmses.{plus_zero, narrow, misfit, narrowed, ckms_of, words_of};
 
 use ckms_steps::CKMS;
 use fraction::Fraction;
@@ -13,7 +13,7 @@ use words::flag_fits;
 
 // A CKMS's state: a flag says whether there is a last value, and another whether there is a mean.
 #[repr(C)]
-#[derive(Clone, Copy)]
+#[derive(Clone, Copy, Default)]
 pub struct CkmsWords {
     pub num: u64,
     pub den: u64,
@@ -50,7 +50,7 @@ pub fn misfit() -> CKMS
 }
 
 impl CkmsWords {
-    // The state of the words, where each word that is a number of 32 bits is one.
+    // The state of the words, where each word that is a number of 32 bits is one. No TryFrom: beside a From the library has one, which can't fail.
     fn narrowed(self) -> Option<CKMS>
         ensures { result ≡ cond (narrow self) (Some (narrowed self)) None }
     {
@@ -81,6 +81,26 @@ impl From<CkmsWords> for CKMS {
             return words.narrowed().unwrap_or(misfit());
         }
         misfit()
+    }
+}
+
+// The words of a state: what there is not, is 0 behind a flag of 0.
+impl From<CKMS> for CkmsWords {
+    ghost from_gives = { λ ckms words. words ≡ words_of ckms };
+
+    fn from(ckms: CKMS) -> CkmsWords {
+        CkmsWords {
+            num: u64::from(ckms.error.num),
+            den: u64::from(ckms.error.den),
+            n: u64::from(ckms.n),
+            held: u64::from(ckms.held),
+            blocks: u64::from(ckms.blocks),
+            inserts: u64::from(ckms.inserts),
+            has_last: u64::from(ckms.last_in.is_some()),
+            last: u64::from(ckms.last_in.unwrap_or(0)),
+            has_mean: u64::from(ckms.cma.is_some()),
+            mean: ckms.cma.map_or(0.0, |mean| mean.value),
+        }
     }
 }
 

@@ -88,3 +88,7 @@ sum_suc (e ∷ es) (suc i) h = omega (arith, sum_suc es i (omega arith))
 
 pub sum_more : (es : List Entry) (i : ℕ) → i < length es → sum_g (take (i + 1) es) ≡ sum_g (take i es) + (get_or es i zero_entry).g
 sum_more es i h = rw (add-one i) (sum_suc es i h)
+
+-- an entry whose three numbers are 0
+pub zero_is : (e : Entry) → (e.v ≡ 0) × (e.g ≡ 0 × e.delta ≡ 0) → e ≡ zero_entry
+zero_is e (a, (b, c)) = λ i. record { v = a i; g = b i; delta = c i }

@@ -1,20 +1,33 @@
 // Entries of a summary, and the work on lent lists of them that every module shares.
 #![tactic(auto)]
 
-ghost use Rattle.std.specs.Prelude.{◌≡◌, ◌≤◌, length, map};
-ghost use Rattle.entries.specs.Entry.{entry_of, sum_g};
+ghost use Rattle.std.specs.Prelude.{◌≡◌, ◌+◌, ◌≤◌, ◌<◌, ◌^◌, length, map};
+ghost use Rattle.entries.specs.Entry.{entry, entry_of, sum_g};
 ghost use Rattle.entries.specs.declared.Entry.{Entry};
 ghost use Rattle.entries.specs.Promises.{Promises};
 
 // v is an observation; g says how many ranks lie between the entry before and this one; delta how unsure its rank is.
-#[derive(Clone, Copy)]
+#[derive(Clone, Copy, Debug, Default, PartialEq, Eq)]
 pub struct Entry {
     pub v: u32,
     pub g: u32,
     pub delta: u32,
 }
 
-// A place of a lent list: it holds an entry, and its type says how.
+impl Entry {
+    // This entry with the g of the one before it, which is deleted.
+    pub fn absorbing(self, before: Entry) -> Entry
+        requires { before.g + self.g < 2 ^ 32 }
+        ensures { result ≡ entry self.v (before.g + self.g) self.delta }
+    {
+        Entry {
+            g: before.g + self.g,
+            ..self
+        }
+    }
+}
+
+// A place of a lent list: it holds an entry, and its type says how. A trait and not From alone, so that a contract can name the entry by `T.entry`.
 pub trait Slot: Copy {
     // The entry that stands in it.
     ghost entry: { Self → Entry };
@@ -44,11 +57,8 @@ impl Slot for [u32; 3] {
     ghost entry = { entry_of };
 
     fn entry(self) -> Entry {
-        Entry {
-            v: self[0],
-            g: self[1],
-            delta: self[2],
-        }
+        let [v, g, delta] = self;
+        Entry { v, g, delta }
     }
 
     fn holding(e: Entry) -> [u32; 3] {

@@ -19,7 +19,7 @@ impl Fraction {
     // The most observations at which `inv_at` is asked.
     pub const OBSERVATIONS: u32 = 1000000000;
 
-    // The largest denominator, as a value that a contract can name.
+    // The largest denominator as a function: its contract ties the constant to the definition.
     pub fn denominator() -> u32
         ensures { result ≡ denominators }
     {

@@ -1,5 +1,6 @@
 // The Greenwald-Khanna stream over a lent list of rows [v, g, delta] or of entries, refusals included. Nothing in a state is trusted: every call tests the
 // lent list's length, then whether state and list are sound.
+// The lent list stays an argument beside the state, as README's calls and C lend it.
 #![tactic(auto)]
 
 ghost use Rattle.std.specs.Prelude.{map};

@@ -1,9 +1,9 @@
 // The compression of the Greenwald-Khanna stream over a list, equal to its definition over entries.
 #![tactic(auto)]
 
-ghost use Rattle.std.specs.Prelude.{◌≡◌, ◌+◌, ◌<◌, ◌^◌, length, map};
+ghost use Rattle.std.specs.Prelude.{◌≡◌, ◌<◌, length, map};
 ghost use Rattle.greenwald_khanna_theory.specs.Summary.{mergeable};
-ghost use Rattle.greenwald_khanna_rows.specs.Compress.{joined, TurnPost, MergedFrom, CompressPost};
+ghost use Rattle.greenwald_khanna_rows.specs.Compress.{TurnPost, MergedFrom, CompressPost};
 
 use entries::{Entry, Slot};
 
@@ -15,17 +15,6 @@ fn mergeable(e: Entry, next: Entry, p: u32) -> bool
         && products::band(p, e.delta) <= products::band(p, next.delta)
 }
 
-// The entry next with the g of e added.
-fn merge(e: Entry, next: Entry) -> Entry
-    requires { e.g + next.g < 2 ^ 32 }
-    ensures { result ≡ joined e next }
-{
-    Entry {
-        g: e.g + next.g,
-        ..next
-    }
-}
-
 // One turn: the entry at i goes into the one at w, or is put before it. The answer is the place of the first entry that is done.
 fn turn<T: Slot>(list: &mut [T], i: usize, w: usize, p: u32) -> usize
     requires { (i < w) × (w < length list.old) }
@@ -35,7 +24,7 @@ fn turn<T: Slot>(list: &mut [T], i: usize, w: usize, p: u32) -> usize
     let e = place.entry();
     let next = list[w].entry();
     if mergeable(e, next, p) {
-        list[w] = T::holding(merge(e, next));
+        list[w] = T::holding(next.absorbing(e));
         return w;
     }
     list[w - 1] = place;
@@ -65,11 +54,6 @@ pub fn compress<T: Slot>(list: &mut [T], p: u32) -> usize
     let w = merge_back(list, p);
     list.copy_within(w.., 1);
     let left = 1 + (held - w);
-    let zero = Entry {
-        v: 0,
-        g: 0,
-        delta: 0,
-    };
-    room::clear(list, left, held, T::holding(zero));
+    room::clear(list, left, held, T::holding(Entry::default()));
     left
 }

@@ -16,6 +16,7 @@ fn ends_exact<T: Slot>(list: &[T]) -> bool
 }
 
 // Whether the entries are those of a sound stream of n observations, in one pass: it runs at every call.
+// The store's test asks something else of delta and nothing of the two ends, so each has its own.
 pub fn sound_entries<T: Slot>(list: &[T], n: u32, p: u32) -> bool
     requires { length list.now ≤ 65536 }
     ensures { result ≡ sound_entries p n (map T.entry list.now) }

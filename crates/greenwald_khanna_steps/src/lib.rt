@@ -31,7 +31,7 @@ impl Stream {
     // The largest denominator of a fraction.
     pub const DENOMINATOR: u32 = 65536;
 
-    // The limits, as values that a contract can name.
+    // The limits as functions: their contracts tie the constants to the definitions.
     pub fn slots() -> usize
         ensures { result ≡ slots }
     {
@@ -61,12 +61,7 @@ impl Stream {
         if !epsilon.is_epsilon() {
             return Err(Refusal::Epsilon);
         }
-        let zero = Entry {
-            v: 0,
-            g: 0,
-            delta: 0,
-        };
-        room::clear(list, 0, slots, T::holding(zero));
+        room::clear(list, 0, slots, T::holding(Entry::default()));
         Ok(Stream {
             epsilon,
             n: 0,

@@ -1,5 +1,6 @@
 // The histogram: how many observations fell into each of the bins that the caller's bounds cut, and their sum.
 // Bounds and counts are lent; nothing in a state is trusted, so every call tests what it is given.
+// The lent lists stay arguments beside the state, as README's calls and C lend them.
 #![tactic(auto)]
 
 ghost use Rattle.std.specs.Prelude.{◌≡◌, [], MatchResult};

@@ -48,7 +48,7 @@ impl<'c> Bins<'_, 'c> {
     }
 }
 
-// The sum of the counts.
+// The sum of the counts. `entries::sum_g` sums the g of entries; here the list holds the numbers themselves.
 pub fn total(counts: &[u32]) -> u64
     requires { length counts.now ≤ 65536 }
     ensures { result ≡ total counts.now }

@@ -1,5 +1,6 @@
 // What the histogram's calls rest on: its state beside the lent bounds and counts, the limits, and opening.
 // Nothing in a state is trusted: `standing` tests what a call is given.
+// The lent lists stay arguments, as in the calls that pass them on.
 #![tactic(auto)]
 
 ghost use Rattle.std.specs.Prelude.{◌≡◌};
@@ -29,7 +30,7 @@ impl Histogram {
     // The largest observation.
     pub(crate) const LARGEST: u64 = 4294967295;
 
-    // The same limits as values, so that a contract can tie them to the definitions.
+    // The same limits as functions: their contracts tie the constants to the definitions.
     pub fn bounds() -> usize
         ensures { result ≡ bounds }
     {

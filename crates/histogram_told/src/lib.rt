@@ -1,4 +1,5 @@
 // What a histogram tells: its count, its sum, and the totals between bounds. Refused: SLOTS, DAMAGED. `histogram` passes the calls on.
+// The lent lists stay arguments, as in the calls that pass them on.
 #![tactic(auto)]
 
 ghost use Rattle.std.specs.Prelude.{◌≡◌};

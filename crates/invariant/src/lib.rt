@@ -36,7 +36,7 @@ impl AllowedError {
     }
 }
 
-// inv(x) of an allowed error; 0 of any other fraction.
+// inv(x) of an allowed error; 0 of any other fraction. It stays beside the method, since it takes any words.
 pub fn inv(f: Fraction, x: u32) -> u64
     ensures { result ≡ within (is_error f) (inv f x) }
 {

@@ -1,5 +1,6 @@
 // The running mean of the CKMS: a record of f64, updated operation by operation in the Rust's order.
-// Every function takes any words and any f64: nothing traps, and specs/ says what comes out.
+// Every function takes any words and any f64: nothing traps, and specs/ says what comes out. A u32 is cast `as f64`: the cast is proved to lose
+// nothing, and `f64::from` would add a step to each proof.
 #![tactic(auto)]
 
 ghost use Rattle.std.specs.Prelude.{◌≡◌};

@@ -14,7 +14,7 @@ pub fn insert_at<T: Copy>(list: &mut [T], held: usize, pos: usize, x: T)
     list[pos] = x;
 }
 
-// Places `from` up to `to` become `zero`.
+// Places `from` up to `to` become `zero`. Not by `fill`, which asks for a clone that can't fail, and `T: Copy` alone says no such thing.
 pub fn clear<T: Copy>(list: &mut [T], from: usize, to: usize, zero: T)
     requires { (from ≤ to) × (to ≤ length list.old) }
     ensures { list.new ≡ cleared zero from to list.old }

@@ -11,7 +11,8 @@ ghost use Rattle.scan_file.specs.Words.{word_at};
 use fraction::Fraction;
 use refusal::Refusal;
 
-// What a scan file holds: ε, and how many fractions and observations. They are read in place.
+// What a scan file holds: ε, and how many fractions and observations. They are read in place: the layout is public and holds numbers alone, and the
+// bytes are lent beside it.
 #[derive(Clone, Copy)]
 pub struct Layout {
     pub epsilon: Fraction,
@@ -19,7 +20,7 @@ pub struct Layout {
     pub observations: u32,
 }
 
-// The byte at a place, and 0 behind the end.
+// The byte at a place, and 0 behind the end: of a word that the file cuts the bytes that are there count.
 fn byte_at(bytes: &[u8], at: usize) -> u8
     ensures { result ≡ get_or bytes.now at 0 }
 {
@@ -73,7 +74,7 @@ impl Layout {
     // The most bytes of a file.
     pub const BYTES: usize = 33300;
 
-    // The limits, as values that a contract can name.
+    // The limits as functions: their contracts tie the constants to the definitions.
     pub fn fraction_words() -> u32
         ensures { result ≡ fraction_words }
     {

@@ -14,11 +14,11 @@ pub fn report(bytes: &[u8], rows: &mut [[u32; 3]], out: &mut [u8; 4096]) -> usiz
 {
     let layout = match scan_file::parse(bytes) {
         Ok(layout) => layout,
-        Err(why) => return scan_text::spell(Line::FileRefused(why.number()), out, 0),
+        Err(why) => return scan_text::spell(Line::FileRefused(why), out, 0),
     };
     let first = match Stream::open(layout.epsilon, rows) {
         Ok(first) => first,
-        Err(why) => return scan_text::spell(Line::OpenRefused(why.number()), out, 0),
+        Err(why) => return scan_text::spell(Line::OpenRefused(why), out, 0),
     };
     let ran = scan_insert::insert_all(first, layout, bytes, rows);
     scan_write::write_scan(ran, layout, bytes, rows, out)

@@ -1,4 +1,6 @@
 // Puts pieces of text at a place: words, numbers in decimal, fractions.
+// The place travels beside the buffer: a struct that lent the buffer would have to hold what is said of both at every write. Nor by Display, whose
+// texts a contract knows only where they go to a String, and there is no heap.
 #![tactic(auto)]
 
 ghost use Rattle.std.specs.Prelude.{◌+◌, ◌≤◌, length};

@@ -1,4 +1,5 @@
 // The lines about a scan whose observations were inserted, as text.
+// The place travels beside the buffer, as in `scan_put`.
 #![tactic(auto)]
 
 ghost use Rattle.std.specs.Prelude.{◌≡◌, map, ◌+◌, ◌*◌, ◌≤◌, length};
@@ -15,13 +16,13 @@ use scan_file::Layout;
 use scan_insert::Ran;
 use scan_text::Line;
 
-// A fraction's line: its quantile, or the number of the quantile's refusal.
+// A fraction's line: its quantile, or the quantile's refusal.
 fn line_of(stream: Stream, rows: &[[u32; 3]], phi: Fraction) -> Line
     ensures { result ≡ fraction_line stream (entries_of rows.now) phi }
 {
     match greenwald_khanna::quantile(stream, rows, phi) {
         Ok(v) => Line::Value(phi, v),
-        Err(why) => Line::Refused(phi, why.number()),
+        Err(why) => Line::Refused(phi, why),
     }
 }
 
@@ -59,7 +60,7 @@ pub fn write_scan(
     let after_taken = scan_text::spell(Line::Taken(stream.n), out, 0);
     let mut at = scan_text::spell(Line::Held(stream.held), out, after_taken);
     if let Some(why) = ran.refused {
-        at = scan_text::spell(Line::InsertRefused(why.number()), out, at);
+        at = scan_text::spell(Line::InsertRefused(why), out, at);
     }
     write_fractions(stream, layout, bytes, rows, out, at)
 }

@@ -8,7 +8,7 @@ ghost use Rattle.entries.specs.Ranks.{Rising, below};
 
 use entries::Slot;
 
-// The first place whose value is greater than x, else the end: every place is looked at.
+// The first place whose value is greater than x, else the end: every place is looked at. By `position` the proof did not close.
 pub fn scan<T: Slot>(list: &[T], x: u32) -> usize
     ensures { result ≡ place x (values (map T.entry list.now)) }
 {
@@ -20,7 +20,7 @@ pub fn scan<T: Slot>(list: &[T], x: u32) -> usize
     list.len()
 }
 
-// The same of a sorted list, by halving; one of 10 or fewer is looked through, as the Rust does.
+// The same of a sorted list, by halving; one of 10 or fewer is looked through, as the Rust does, which is faster.
 pub fn place<T: Slot>(list: &[T], x: u32) -> usize
     requires { Rising 0 (values (map T.entry list.now)) }
     ensures { result ≡ place x (values (map T.entry list.now)) }

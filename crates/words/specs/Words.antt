@@ -11,6 +11,10 @@ use Rattle.words.specs.declared.Ratio.{Ratio}
 abbrev pub fraction_of : Ratio → Fraction
 fraction_of f = record { num = f.num; den = f.den }
 
+-- the two words of a fraction
+abbrev pub ratio_of : Fraction → Ratio
+ratio_of f = record { num = f.num; den = f.den }
+
 -- what a refused call tells
 abbrev pub refused : Refusal → Number
 refused why = record { refusal = number_of why; value = 0 }

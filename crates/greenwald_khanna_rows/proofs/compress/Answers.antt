@@ -1,7 +1,8 @@
 -- `greenwald_khanna_rows::compress` meets its contract: the backward pass, the move down and the zeroing, one after the other.
 -- Assumes nothing.
-use Rattle.std.proofs.Common.{map, arith}
+use Rattle.std.proofs.Common.{◌∙◌, map, arith}
 use Rattle.std.proofs.lemmas.List.{length-map}
+use Rattle.entries.proofs.Maps.{zero_is}
 use Rattle.greenwald_khanna_rows.proofs.Gaps.{short, all}
 use Rattle.greenwald_khanna_rows.proofs.compress.Goals as goal
 
@@ -13,4 +14,4 @@ returns-then-held-lt2 g c =
 pub returns : goal.returns
 returns g c =
     all g.T.Slot.entry c.args.p c.merge_back-w.result _ _ _ _ _ (omega arith)
-    c.merge_back-w.ensures c.copy_within.ensures.after c.clear.ensures c.holding.ensures
+    c.merge_back-w.ensures c.copy_within.ensures.after c.clear.ensures (c.holding.ensures ∙ zero_is c.default.result c.default.ensures)

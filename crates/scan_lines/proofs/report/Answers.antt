@@ -10,13 +10,13 @@ use Rattle.scan_lines.proofs.report.Goals as goal
 pub returns-in-Err : goal.returns-in-Err
 returns-in-Err c =
     file_report c.args.bytes.now (entries_of c.args.rows.now) c.args.out.now c.spell.result c.spell.new.out c.in-Err.why (sym c.in-Err.is ∙ c.parse.ensures)
-    (rw c.number.ensures at c.spell.ensures.0)
+    c.spell.ensures.0
 
 pub returns-in-Err-open : goal.returns-in-Err-open
 returns-in-Err-open c =
     open_report c.args.bytes.now (entries_of c.args.rows.now) c.args.out.now c.spell-in-Err-open.result c.spell-in-Err-open.new.out _
     (sym c.in-Ok.is ∙ c.parse.ensures) c.open.result (entries_of c.open.new.list) c.open.ensures c.in-Err-open.why c.in-Err-open.is
-    (rw c.number-in-Err-open.ensures at c.spell-in-Err-open.ensures.0)
+    c.spell-in-Err-open.ensures.0
 
 pub write_scan-requires : goal.write_scan-requires
 write_scan-requires c =

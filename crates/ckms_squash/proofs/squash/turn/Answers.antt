@@ -8,7 +8,7 @@ pub returns-then-merges : goal.returns-then-merges
 returns-then-merges c =
     turn_merged c.args.error.fraction c.args.rows.now c.args.w c.args.i c.holding.result
     (rw (c.entry-current.ensures, c.entry-next.ensures) at (sym c.merges.ensures ∙ c.if-merges.true))
-    (rw (c.entry-current.ensures, c.entry-next.ensures) at (c.holding.ensures ∙ c.merge.ensures))
+    (rw (c.entry-current.ensures, c.entry-next.ensures) at (c.holding.ensures ∙ c.absorbing.ensures))
 
 pub returns : goal.returns
 returns c =
