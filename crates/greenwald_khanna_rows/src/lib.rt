@@ -52,7 +52,8 @@ pub fn compress<T: Slot>(list: &mut [T], p: u32) -> usize
         return held;
     }
     let w = merge_back(list, p);
-    list.copy_within(w.., 1);
+    // w is at least 1. Said here, it tells the compiler that entries only move down; else the archive would ask for a memmove from outside.
+    list.copy_within(w.max(1).., 1);
     let left = 1 + (held - w);
     room::clear(list, left, held, T::holding(Entry::default()));
     left

@@ -64,7 +64,7 @@ pub fn bins<'a>(
 ) -> &'a [u32]
     ensures { result.now ≡ bins_answer histogram bounds.now counts.now lower upper }
 {
-    part(histogram, bounds, counts, lower, upper).unwrap_or(&[])
+    part(histogram, bounds, counts, lower, upper).unwrap_or(&counts[..0])
 }
 
 // Why `bins` is refused: the number, or 0.

@@ -32,7 +32,12 @@ impl AllowedError {
         ensures { result ≡ inv self.fraction x }
     {
         let error = self.fraction;
-        (2 * u64::from(error.num) * u64::from(x) / u64::from(error.den)).max(1)
+        let whole = 2 * u64::from(error.num) * u64::from(x) / u64::from(error.den);
+        // By this test and not by `max`: then no division runs where it would come to 0.
+        if whole < 1 {
+            return 1;
+        }
+        whole
     }
 }
 

@@ -9,14 +9,14 @@ ghost use Rattle.fraction.specs.Band.{band};
 
 use fraction::Fraction;
 
-// The whole-number logarithm to base 2 of p - d + 1. Past p the difference is 0, and so is the band.
+// The whole-number logarithm to base 2 of p - d + 1, by counting leading zeros. Past p the difference is 0, and so is the band.
 pub fn band(p: u32, d: u32) -> u32
     ensures { result ≡ band p d }
 {
     if p < d {
         return 0;
     }
-    (u64::from(p - d) + 1).ilog2()
+    63 - (u64::from(p - d) + 1).leading_zeros()
 }
 
 // ⌊f · n⌋: a quantile's rank r = ⌊φn⌋ and a stream's e = ⌊εn⌋. A denominator of 0 gives 0.

@@ -2,7 +2,7 @@
 #![tactic(auto)]
 
 ghost use Rattle.std.specs.Prelude.{◌≡◌};
-ghost use Rattle.refusal.specs.Number.{number_of};
+ghost use Rattle.refusal.specs.Number.{number_of, number_in};
 
 // Why a call is refused, by the names and numbers of the refusal table.
 #[derive(Clone, Copy, Debug, PartialEq, Eq)]
@@ -27,5 +27,15 @@ impl Refusal {
         ensures { result ≡ number_of self }
     {
         self as u32
+    }
+
+    // The number of the refusal that an answer is, 0 where it is none.
+    pub fn number_in<T: Copy>(answer: Result<T, Refusal>) -> u32
+        ensures { result ≡ number_in answer }
+    {
+        if let Err(why) = answer {
+            return why.number();
+        }
+        0
     }
 }

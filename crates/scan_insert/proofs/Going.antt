@@ -23,7 +23,7 @@ pub record Went (ε : Fraction) (X xs : List ℕ) (e : End) : Type 0 where
   pub most : count ≤ length xs
   pub good : Good ε (X ++ take count xs) (given e.ran.stream e.list)
   pub whole : e.ran.refused ≡ None → count ≡ length xs
-  pub cut : (why : Refusal) → e.ran.refused ≡ Some why → count < length xs
+  pub cut : (number : ℕ) → e.ran.refused ≡ Some number → count < length xs
 
 pub insert_good : (ε : Fraction) (X xs : List ℕ) (st : Stream) (list : List Entry) → Good ε X (given st list) → Went ε X xs (insert_all st list xs)
 unfolding insert_all
@@ -32,7 +32,7 @@ insert_good ε X [] st list g = record {
   most = omega arith;
   good = rw (append-nil X) g;
   whole = λ _. refl;
-  cut = λ why h. absurd cc;
+  cut = λ number h. absurd cc;
 }
 insert_good ε X (x ∷ xs) st list g = go (inserted st list x) refl (λ next h. insert_good ε (X ++ x ∷ []) xs next (inserted_list st list x) h)
   where
@@ -56,7 +56,7 @@ insert_good ε X (x ∷ xs) st list g = go (inserted st list x) refl (λ next h.
           most = omega (arith, w.most);
           good = rw same at w.good;
           whole = λ z. ap suc (w.whole z);
-          cut = λ why z. let h = w.cut why z in omega arith;
+          cut = λ number z. let h = w.cut number z in omega arith;
         }
     go (Err why) e on =
         let kept : inserted_list st list x ≡ list = rw e in
@@ -65,5 +65,5 @@ insert_good ε X (x ∷ xs) st list g = go (inserted st list x) refl (λ next h.
           most = omega arith;
           good = rw (append-nil X, kept) g;
           whole = λ z. absurd cc;
-          cut = λ why z. omega arith;
+          cut = λ number z. omega arith;
         }

@@ -2,12 +2,13 @@
 -- Assumes nothing: these are definitions.
 use Rattle.std.specs.Prelude.{◌≡◌, ℕ, List, [], ◌∷◌, Option, Some, None, Result, Ok, Err}
 use Rattle.refusal.specs.declared.Refusal.{Refusal}
+use Rattle.refusal.specs.Number.{number_of}
 use Rattle.entries.specs.declared.Entry.{Entry}
 use Rattle.greenwald_khanna_steps.specs.declared.Stream.{Stream}
 use Rattle.greenwald_khanna.specs.Answers.{inserted, inserted_list}
 use Rattle.scan_insert.specs.declared.Ran.{Ran}
 
--- the stream and the refusal that ended it, if one did; and the lent list then
+-- the stream and the number of the refusal that ended it, if one did; and the lent list then
 pub record End : Type 0 where
   pub ran : Ran
   pub list : List Entry
@@ -15,13 +16,13 @@ pub record End : Type 0 where
 abbrev pub end_of : Ran → List Entry → End
 end_of ran list = record { ran = ran; list = list }
 
-abbrev pub ended : Stream → Option Refusal → List Entry → End
+abbrev pub ended : Stream → Option ℕ → List Entry → End
 ended st refused list = end_of (record { stream = st; refused = refused }) list
 
 -- what follows an insert: the rest, or the end where it was refused
 abbrev pub onward : Result Stream Refusal → Stream → List Entry → (Stream → End) → End
 onward (Ok next) st list rest = rest next
-onward (Err why) st list rest = ended st (Some why) list
+onward (Err why) st list rest = ended st (Some (number_of why)) list
 
 unfoldable pub insert_all : Stream → List Entry → List ℕ → End
 insert_all st list [] = ended st None list

@@ -9,11 +9,11 @@ use greenwald_khanna::Stream;
 use refusal::Refusal;
 use scan_file::Layout;
 
-// What inserting came to: the stream, and the refusal that ended it, if one did.
+// What inserting came to: the stream, and the number of the refusal that ended it, if one did.
 #[derive(Clone, Copy)]
 pub struct Ran {
     pub stream: Stream,
-    pub refused: Option<Refusal>,
+    pub refused: Option<u32>,
 }
 
 // Inserts the observations one after another, and stops at the first refusal.
@@ -22,15 +22,14 @@ pub fn insert_all(first: Stream, layout: Layout, bytes: &[u8], rows: &mut [[u32;
 {
     let mut stream = first;
     for i in 0..layout.observations {
-        match greenwald_khanna::insert(stream, rows, layout.observation(bytes, i)) {
-            Ok(next) => stream = next,
-            Err(why) => {
-                return Ran {
-                    stream,
-                    refused: Some(why),
-                };
-            }
-        }
+        let inserted = greenwald_khanna::insert(stream, rows, layout.observation(bytes, i));
+        let Ok(next) = inserted else {
+            return Ran {
+                stream,
+                refused: Some(Refusal::number_in(inserted)),
+            };
+        };
+        stream = next;
     }
     Ran {
         stream,

@@ -32,7 +32,7 @@ pub all_or_refused : AllOrRefused
 unfolding AllOrRefused
 all_or_refused s list st e =
     let w = went s list st e in
-    (λ z. counted s list st e ∙ w.whole z, λ why z. let h = w.cut why z in omega (arith, counted s list st e))
+    (λ z. counted s list st e ∙ w.whole z, λ number z. let h = w.cut number z in omega (arith, counted s list st e))
 
 pub one_report : OneReport
 unfolding OneReport

@@ -1,10 +1,11 @@
 -- The report, put together from what its parts ensure. Assumes nothing.
-use Rattle.std.specs.Prelude.{None, Result, Ok, Err}
-use mathlib.Core.Path.{◌≡◌, sym, ap, ◌∙◌}
+use Rattle.std.specs.Prelude.{Result, Ok, Err}
+use mathlib.Core.Path.{◌≡◌, sym, ◌∙◌}
 use mathlib.Core.List.{List, [], ◌∷◌}
 use Prim.Native.Nat.{ℕ}
 use Rattle.refusal.specs.declared.Refusal.{Refusal}
 use Rattle.refusal.specs.declared.Refusal.TheVariants.{File}
+use Rattle.refusal.specs.Number.{number_of, number_in}
 use Rattle.entries.specs.declared.Entry.{Entry}
 use Rattle.greenwald_khanna_steps.specs.declared.Stream.{Stream}
 use Rattle.greenwald_khanna_steps.specs.Opening.{OpenPost}
@@ -33,14 +34,13 @@ module _ (bytes : List ℕ) (before : List Entry) (out : List ℕ) (r : ℕ) (af
     counts = put_counts p;
   }
 
-  pub file_report : (why : Refusal) → Err why ≡ answer (parsed bytes) → Put (text_of (FileRefused why)) 0 out r after
-      → ReportPost bytes before out r before after
+  pub file_report : (why : Refusal) (a : Result Layout Refusal) (n : ℕ) → a ≡ Err why → a ≡ answer (parsed bytes) → n ≡ number_in a
+      → Put (text_of (FileRefused n)) 0 out r after → ReportPost bytes before out r before after
   unfolding report_of
-  file_report why h p =
-      let none = layout_refused bytes why h in
-      let told : Err why ≡ answer None = h ∙ ap answer none in
-      let same : why ≡ File = cc in
-      as-report before (FileRefused File ∷ []) (rw none) (one_put (FileRefused File) (rw same at p))
+  file_report why a n t h q p =
+      let none = layout_refused bytes why (sym t ∙ h) in
+      let same : n ≡ number_of File = rw (h, none) at q in
+      as-report before (FileRefused (number_of File) ∷ []) (rw none) (one_put (FileRefused (number_of File)) (rw same at p))
 
   -- where the file is taken
   module _ (l : Layout) (h : Ok l ≡ answer (parsed bytes)) (o : Result Stream Refusal) (list : List Entry) (q : OpenPost l.epsilon before o list) where
@@ -48,8 +48,11 @@ module _ (bytes : List ℕ) (before : List Entry) (out : List ℕ) (r : ℕ) (af
     unfolding report_of
     taken-report = rw ((layout_taken bytes l h).0, q.answered, q.left)
 
-    pub open_report : (why : Refusal) → o ≡ Err why → Put (text_of (OpenRefused why)) 0 out r after → ReportPost bytes before out r list after
-    open_report why e p = as-report list (OpenRefused why ∷ []) (rw e at taken-report) (one_put (OpenRefused why) p)
+    pub open_report : (why : Refusal) (n : ℕ) → o ≡ Err why → n ≡ number_in o → Put (text_of (OpenRefused n)) 0 out r after
+        → ReportPost bytes before out r list after
+    open_report why n e q p =
+        let same : n ≡ number_of why = rw e at q in
+        as-report list (OpenRefused (number_of why) ∷ []) (rw e at taken-report) (one_put (OpenRefused (number_of why)) (rw same at p))
 
     pub scan_report : (st : Stream) → o ≡ Ok st → (ran : Ran) (rows : List Entry) → RanPost (insert_all st list (scan_at bytes l).observations) ran rows
         → Put (texts (scan_lines (end_of ran rows) (scan_at bytes l).fractions)) 0 out r after → ReportPost bytes before out r rows after

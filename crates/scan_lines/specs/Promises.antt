@@ -1,7 +1,6 @@
 -- What is promised of the scan program's report beside its contract, each statement under its name; the contract of `promises` states them all.
 -- Assumes nothing: these are definitions.
 use Rattle.std.specs.Prelude.{◌≡◌, ℕ, ◌<◌, List, [], ◌∷◌, length, take, replicate, codes, Some, None, Ok}
-use Rattle.refusal.specs.declared.Refusal.{Refusal}
 use Rattle.fraction.specs.declared.Fraction.{Fraction}
 use Rattle.entries.specs.declared.Entry.{Entry}
 use Rattle.entries.specs.Entry.{entries_of, zero_entry}
@@ -34,7 +33,7 @@ unfoldable pub AllOrRefused : Type 0
 AllOrRefused =
     (s : Scan) (list : List Entry) (st : Stream) → opened s.epsilon list ≡ Ok st
     → ((end_from s list st).ran.refused ≡ None → (end_from s list st).ran.stream.n ≡ length s.observations)
-    × ((why : Refusal) → (end_from s list st).ran.refused ≡ Some why → (end_from s list st).ran.stream.n < length s.observations)
+    × ((number : ℕ) → (end_from s list st).ran.refused ≡ Some number → (end_from s list st).ran.stream.n < length s.observations)
 
 -- any two outcomes that the contract of `report` allows for one input coincide: the text, its length, and every word of the lent rows
 unfoldable pub OneReport : Type 0

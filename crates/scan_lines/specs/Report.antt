@@ -4,6 +4,7 @@ use Rattle.std.specs.Prelude.{◌≡◌, ℕ, List, [], ◌∷◌, Option, Some,
 use Rattle.io.specs.Counts.{IsPrefixLen}
 use Rattle.refusal.specs.declared.Refusal.{Refusal}
 use Rattle.refusal.specs.declared.Refusal.TheVariants.{File}
+use Rattle.refusal.specs.Number.{number_of}
 use Rattle.fraction.specs.declared.Fraction.{Fraction}
 use Rattle.entries.specs.declared.Entry.{Entry}
 use Rattle.greenwald_khanna_steps.specs.declared.Stream.{Stream}
@@ -26,11 +27,11 @@ inserts e fs = record { lines = scan_lines e fs; list = e.list }
 -- an opening refusal writes only its own line
 abbrev pub opens : Result Stream Refusal → List Entry → Scan → Report
 opens (Ok st) list s = inserts (insert_all st list s.observations) s.fractions
-opens (Err why) list s = record { lines = OpenRefused why ∷ []; list = list }
+opens (Err why) list s = record { lines = OpenRefused (number_of why) ∷ []; list = list }
 
 -- a file refusal writes only its own line
 unfoldable pub report_of : Option Scan → List Entry → Report
-report_of None list = record { lines = FileRefused File ∷ []; list = list }
+report_of None list = record { lines = FileRefused (number_of File) ∷ []; list = list }
 report_of (Some s) list = opens (opened s.epsilon list) (opened_list s.epsilon list) s
 
 -- the text stands at the start of `out`, and r is its length; `counts` follows from that, and a caller can write those r bytes without a proof

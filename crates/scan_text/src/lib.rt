@@ -7,18 +7,17 @@ ghost use Rattle.scan_put.specs.Put.{Put};
 ghost use Rattle.scan_text.specs.Lines.{text_of, line_bytes};
 
 use fraction::Fraction;
-use refusal::Refusal;
 
-// A line: which one, and what it tells.
+// A line: which one, and its numbers.
 #[derive(Clone, Copy)]
 pub enum Line {
-    FileRefused(Refusal),
-    OpenRefused(Refusal),
+    FileRefused(u32),
+    OpenRefused(u32),
     Taken(u32),
     Held(u32),
-    InsertRefused(Refusal),
+    InsertRefused(u32),
     Value(Fraction, u32),
-    Refused(Fraction, Refusal),
+    Refused(Fraction, u32),
 }
 
 // Puts a line.
@@ -27,18 +26,18 @@ pub fn spell(line: Line, out: &mut [u8], at: usize) -> usize
     ensures { Put (text_of line) at out.old result out.new × (result ≤ at + line_bytes) }
 {
     match line {
-        Line::FileRefused(why) => scan_put::put_named(out, at, b"file refused ", why.number()),
-        Line::OpenRefused(why) => scan_put::put_named(out, at, b"open refused ", why.number()),
+        Line::FileRefused(n) => scan_put::put_named(out, at, b"file refused ", n),
+        Line::OpenRefused(n) => scan_put::put_named(out, at, b"open refused ", n),
         Line::Taken(n) => scan_put::put_named(out, at, b"taken ", n),
         Line::Held(n) => scan_put::put_named(out, at, b"held ", n),
-        Line::InsertRefused(why) => scan_put::put_named(out, at, b"insert refused ", why.number()),
+        Line::InsertRefused(n) => scan_put::put_named(out, at, b"insert refused ", n),
         Line::Value(f, v) => {
             let after_fraction = scan_put::put_fraction(out, at, f);
             scan_put::put_named(out, after_fraction, b" ", v)
         }
-        Line::Refused(f, why) => {
+        Line::Refused(f, n) => {
             let after_fraction = scan_put::put_fraction(out, at, f);
-            scan_put::put_named(out, after_fraction, b" refused ", why.number())
+            scan_put::put_named(out, after_fraction, b" refused ", n)
         }
     }
 }

@@ -12,18 +12,20 @@ ghost use Rattle.scan_write.specs.ScanLines.{fraction_line, scan_lines, texts};
 
 use fraction::Fraction;
 use greenwald_khanna::Stream;
+use refusal::Refusal;
 use scan_file::Layout;
 use scan_insert::Ran;
 use scan_text::Line;
 
-// A fraction's line: its quantile, or the quantile's refusal.
+// A fraction's line: its quantile, or the number of the quantile's refusal.
 fn line_of(stream: Stream, rows: &[[u32; 3]], phi: Fraction) -> Line
     ensures { result ≡ fraction_line stream (entries_of rows.now) phi }
 {
-    match greenwald_khanna::quantile(stream, rows, phi) {
-        Ok(v) => Line::Value(phi, v),
-        Err(why) => Line::Refused(phi, why),
-    }
+    let answer = greenwald_khanna::quantile(stream, rows, phi);
+    let Ok(v) = answer else {
+        return Line::Refused(phi, Refusal::number_in(answer));
+    };
+    Line::Value(phi, v)
 }
 
 // The lines of the fractions, from a place of the text on.
@@ -59,8 +61,8 @@ pub fn write_scan(
     let stream = ran.stream;
     let after_taken = scan_text::spell(Line::Taken(stream.n), out, 0);
     let mut at = scan_text::spell(Line::Held(stream.held), out, after_taken);
-    if let Some(why) = ran.refused {
-        at = scan_text::spell(Line::InsertRefused(why), out, at);
+    if let Some(number) = ran.refused {
+        at = scan_text::spell(Line::InsertRefused(number), out, at);
     }
     write_fractions(stream, layout, bytes, rows, out, at)
 }

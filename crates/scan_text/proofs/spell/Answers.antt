@@ -10,8 +10,4 @@ returns-in-Value c =
 
 pub returns-in-Refused : goal.returns-in-Refused
 returns-in-Refused c =
-    rw (c.in-Refused.is, ← c.number-in-Refused.ensures) (put_both c.put_fraction-after_fraction-in-Refused.ensures.0 c.put_named-in-Refused.ensures.0, omega arith)
-
-pub returns-in-InsertRefused : goal.returns-in-InsertRefused
-returns-in-InsertRefused c =
-    rw (c.in-InsertRefused.is, ← c.number-in-InsertRefused.ensures) (c.put_named-in-InsertRefused.ensures.0, omega arith)
+    rw c.in-Refused.is (put_both c.put_fraction-after_fraction-in-Refused.ensures.0 c.put_named-in-Refused.ensures.0, omega arith)
