@@ -134,8 +134,7 @@ impl Store {
             && lists::blocks_sound(&lens[..self.blocks as usize], self.block, self.held)
     }
 
-    // SLOTS, then DAMAGED: what every call but opening tests first. Laid into each call: a call of its own took a third of the time of an early refusal.
-    #[inline(always)]
+    // SLOTS, then DAMAGED: what every call but opening tests first.
     pub fn check(self, rows: &[[u32; 3]], lens: &[u32]) -> Result<(), Refusal>
         ensures { result ≡ checked self (entries_of rows.now) lens.now }
     {
